@@ -1,0 +1,4 @@
+pub mod Core
+pub mod RunLaw
+pub mod Steps
+pub mod Turns
