@@ -1,4 +1,5 @@
 pub mod Core
+pub mod Replay
 pub mod RunLaw
 pub mod Steps
 pub mod Turns

@@ -13,11 +13,12 @@ use Rattle.records.specs.declared.fields.StepFields.{StepFields}
 use Rattle.records.specs.declared.record.Chain.{Chain}
 use Rattle.rules.specs.Rules.{Meaning}
 use Rattle.law.specs.declared.answers.Answer.{Answer}
-use Rattle.law.specs.declared.answers.Answer.the-variants.{Solved, Refused}
+use Rattle.law.specs.declared.answers.Answer.the-variants.{Done, Solved, Told, Refused}
 use Rattle.law.specs.declared.answers.Refusal.{Refusal}
 use Rattle.law.specs.declared.answers.Refusal.the-variants.{NotSolved, NothingCarries}
+use Rattle.law.specs.Runs.Call.{add, solve, ask}
 use Rattle.law.specs.Assignments.{Held, rows-of, deadlines-of, jitters-of, zeros, total}
-use Rattle.law.specs.Runs.{Call, Run, holding, held, at-step, told, current, Start, Lawful}
+use Rattle.law.specs.Runs.{Call, Run, holding, held, add-answer, at-step, told, current, Start, Lawful}
 
 -- what a plan holds: its chains, the responses that its next solve starts from, and whether an accepted solve stands
 pub record Contents : Type 0 where
@@ -105,6 +106,41 @@ solved-with s None = record { chains = s .chains; start = zeros (s .chains); sol
 
 abbrev pub ask-answer : Contents → ℕ → ℕ → Answer
 ask-answer s i k = at-step (s .chains) i k (cond (s .solved) (told (s .chains) (s .start) i k) (Refused NotSolved))
+
+-- ## Any call
+
+-- what a call answers
+abbrev pub call-answer : Meaning → Contents → Call → Answer
+call-answer answer s (add c steps) = add-answer (s .chains) c steps
+call-answer answer s solve = solve-answer (solving answer s)
+call-answer answer s (ask i k) = ask-answer s i k
+
+abbrev pub is-done : Answer → Bool
+is-done Done = true
+is-done (Solved n) = false
+is-done (Told t) = false
+is-done (Refused why) = false
+
+-- what a plan holds after a call
+abbrev pub call-after : Meaning → Contents → Call → Contents
+call-after answer s (add c steps) = cond (is-done (add-answer (s .chains) c steps)) (added s c steps) s
+call-after answer s solve = solved-with s (solving answer s .responses)
+call-after answer s (ask i k) = s
+
+-- what calls made one after another answer, and what a plan holds after them
+abbrev pub answers-to : Meaning → Contents → List Call → List Answer
+answers-to answer s [] = []
+answers-to answer s (c ∷ calls) = call-answer answer s c ∷ answers-to answer (call-after answer s c) calls
+
+abbrev pub after-calls : Meaning → Contents → List Call → Contents
+after-calls answer s [] = s
+after-calls answer s (c ∷ calls) = after-calls answer (call-after answer s c) calls
+
+-- a run that goes on with these calls and answers
+abbrev pub run-on : List Call → List Answer → Run → Run
+run-on [] answers h = h
+run-on (c ∷ calls) [] h = h
+run-on (c ∷ calls) (a ∷ answers) h = run-on calls answers ((c, a) ∷ h)
 
 -- ## Runs that lead to a plan
 

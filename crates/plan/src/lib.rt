@@ -2,12 +2,16 @@
 mod add;
 mod append;
 mod ask;
+mod calls;
 mod find;
 mod keep;
 mod open;
 mod plan;
+mod perform;
 mod round;
 mod solve;
 mod table;
 
+pub use calls::PlanCall;
 pub use plan::Plan;
+pub use perform::replay;
