@@ -13,7 +13,11 @@ use records::StepFields;
 use std::io;
 
 // A chain's fields go into the plan as a record.
-fn add(plan: &mut Plan<FixedPriority>, fields: ChainFields, steps: &[StepFields]) -> Result<(), Refusal> {
+fn add(
+    plan: &mut Plan<FixedPriority>,
+    fields: ChainFields,
+    steps: &[StepFields],
+) -> Result<(), Refusal> {
     let chain = Chain::new(fields)?;
     plan.add(chain, steps)
 }

@@ -5,7 +5,9 @@ use records::LocalDeadline;
 use records::StepFields;
 
 const HOST: u32 = 1;
+
 const LINK: u32 = 2;
+
 const CONTROLLER: u32 = 3;
 
 fn step(node: u32, cost: u32, local: u32, delay: u32, priority: u32) -> StepFields {

@@ -76,14 +76,14 @@ module _ (t : Table) (period : ℕ) (steps : List StepFields) (fits : t .«row_c
           w .row,
           take-more steps k no-step h,
           map-append (row-of period) (take k steps) (getD steps k no-step ∷ []),
-          append-assoc (table-rows t) (map (row-of period) (take k steps)) (row-of period (getD steps k no-step) ∷ [])
+          append-assoc (table-rows t) (map (row-of period) (take k steps)) (row-of period (getD steps k no-step) ∷ []),
         );
         start = rw (
           ← add-assoc (t .«row_count») k 1,
           take-more-set (s .responses) (t .«row_count» + k) 0 (omega arith),
           w .start,
           ← replicate-more {X = ℕ} k 0,
-          append-assoc (responses-of t) (replicate k 0) (0 ∷ [])
+          append-assoc (responses-of t) (replicate k 0) (0 ∷ []),
         );
       }
 

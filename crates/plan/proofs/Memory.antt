@@ -87,7 +87,7 @@ span-after id first (e ∷ es) rows h =
         span-from id (first + e .steps) es ≡ cond (holds cs id) (Some (record { first = (first + e .steps) + first-row cs id; steps = steps-of cs id })) None →
         cond b (Some (record { first = first; steps = e .steps })) (span-from id (first + e .steps) es) ≡
         cond (b || holds cs id)
-            (Some (record { first = first + cond b 0 (length (take (e .steps) rows) + first-row cs id); steps = cond b (length (take (e .steps) rows)) (steps-of cs id) })) None
+        (Some (record { first = first + cond b 0 (length (take (e .steps) rows) + first-row cs id); steps = cond b (length (take (e .steps) rows)) (steps-of cs id) })) None
     by true l w = rw (l, add-zero first)
     by false l w = rw (l, ← add-assoc first (e .steps) (first-row (chains-from es (drop (e .steps) rows)) id)) w
 

@@ -102,7 +102,7 @@ jitter-at (c ∷ cs) xs k p e l = by (ltb k n) refl e (jitter-at cs (drop n xs) 
 
     by : (t : Bool) → ltb k n ≡ t → Some p ≡ cond t (Some (record { chain = c .chain; step = k })) (place-in cs (k - n)) →
         (Some p ≡ place-in cs (k - n) → length (rows-of cs) ≤ length (drop n xs) →
-          getD (jitters-of cs (drop n xs)) (k - n) 0 ≡ before (p .chain .«arrival_jitter») (drop n xs) (k - n) (p .step) + row (rows-of cs) (k - n) .step .delay) →
+        getD (jitters-of cs (drop n xs)) (k - n) 0 ≡ before (p .chain .«arrival_jitter») (drop n xs) (k - n) (p .step) + row (rows-of cs) (k - n) .step .delay) →
         getD (front ++ jitters-of cs (drop n xs)) k 0 ≡ before (p .chain .«arrival_jitter») xs k (p .step) + row (c .rows ++ rows-of cs) k .step .delay
     by true t e rec =
         let h = ltb-true k n t in

@@ -18,7 +18,10 @@ impl Table {
     {
         let first = self.row_count;
         for (k, step) in steps.iter().enumerate() {
-            self.rows[first + k] = Row { period, step: *step };
+            self.rows[first + k] = Row {
+                period,
+                step: *step,
+            };
             self.responses[first + k] = 0;
         }
         self.row_count = first + steps.len();

@@ -4,7 +4,13 @@ use records::StepFields;
 
 #[derive(Drop)]
 pub enum PlanCall {
-    Add { chain: Chain, steps: Vec<StepFields> },
+    Add {
+        chain: Chain,
+        steps: Vec<StepFields>,
+    },
     Solve,
-    Ask { id: u32, step: u32 },
+    Ask {
+        id: u32,
+        step: u32,
+    },
 }

@@ -6,12 +6,12 @@ mod calls;
 mod find;
 mod keep;
 mod open;
-mod plan;
 mod perform;
+mod plan;
 mod round;
 mod solve;
 mod table;
 
 pub use calls::PlanCall;
-pub use plan::Plan;
 pub use perform::replay;
+pub use plan::Plan;

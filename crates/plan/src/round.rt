@@ -78,7 +78,11 @@ impl<R: NodeRule> Plan<R> {
     {
         let response = self.rule.response(self.rows(), jitters, row)?;
         let latest = self.place(row).chain.deadline.ticks;
-        if response <= latest { Some(response) } else { None }
+        if response <= latest {
+            Some(response)
+        } else {
+            None
+        }
     }
 
     // The responses of the next round, or `None` where one is over or past its chain's deadline.

@@ -20,15 +20,16 @@ impl<R: NodeRule> Plan<R> {
         let most = self.most_rounds();
         let mut responses = self.table.responses;
         for made in 0..most {
+            let rounds = made + 1;
             let Some(next) = self.round(&responses) else {
                 return Settled {
-                    rounds: made + 1,
+                    rounds,
                     responses: None,
                 };
             };
             if self.same(&responses, &next) {
                 return Settled {
-                    rounds: made + 1,
+                    rounds,
                     responses: Some(next),
                 };
             }

@@ -25,11 +25,10 @@ loop-row-again g c =
     let y = c .in-Continue-next .field-0 in
     let js : c .front .result .now ≡ jitters-of (chains-of (p .table)) (in-use (p .table) (c .args .responses .now)) = c .front .ensures ∙ c .jitters-jitters .ensures in
     let found : Some y ≡ row-response (g .R·NodeRule .answer (p .rule)) (chains-of (p .table)) (in-use (p .table) (c .args .responses .now)) (c .loop-row .row) = rw js at (c .in-Continue-next .ensures tt .value) in
-    let inside : c .loop-row .row < length (c .loop-row .next) = omega (arith, c .loop-row .inv .0) in
-    (
+    let inside : c .loop-row .row < length (c .loop-row .next) = omega (arith, c .loop-row .inv .0) in (
       simp length-set (c .loop-row .inv .0),
       round-next (g .R·NodeRule .answer (p .rule)) (chains-of (p .table)) (in-use (p .table) (c .args .responses .now)) (c .loop-row .next) (c .loop-row .row) y inside (c .loop-row .inv .1) found,
-      small-next (c .loop-row .next) (c .loop-row .row) y inside (c .loop-row .inv .2) (c .in-Continue-next .ensures tt .small)
+      small-next (c .loop-row .next) (c .loop-row .row) y inside (c .loop-row .inv .2) (c .in-Continue-next .ensures tt .small),
     )
 
 pub returns : need.returns

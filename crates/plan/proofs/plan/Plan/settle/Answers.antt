@@ -23,11 +23,10 @@ returns-then-same g c =
 pub loop-made-again : need.loop-made-again
 loop-made-again g c =
     let p = c .args .self .now in
-    let t = p .table in
-    (
+    let t = p .table in (
       search needs,
       c .in-Some .ensures tt .small,
-      turn-goes-on (g .R·NodeRule .answer (p .rule)) (chains-of t) (c .most-rounds-most .result) (in-use t (t .responses)) (c .loop-made .made) (in-use t (c .loop-made .responses)) (c .loop-made .inv .2) (in-use t (c .in-Some .next)) (c .loop-made-test .taken) (sym (c .in-Some .ensures tt .value)) (sym (c .if-same .ensures tt))
+      turn-goes-on (g .R·NodeRule .answer (p .rule)) (chains-of t) (c .most-rounds-most .result) (in-use t (t .responses)) (c .loop-made .made) (in-use t (c .loop-made .responses)) (c .loop-made .inv .2) (in-use t (c .in-Some .next)) (c .loop-made-test .taken) (sym (c .in-Some .ensures tt .value)) (sym (c .if-same .ensures tt)),
     )
 
 pub returns : need.returns
