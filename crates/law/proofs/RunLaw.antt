@@ -1,19 +1,20 @@
 -- Runs of calls: every call has one right answer, which the calls before it fix.
 use mathlib.Core.Path.{_≡_, refl, sym, _∙_, ap}
-use mathlib.Core.Bool.{Bool, true, false, not, _&&_, true≢false, false≢true}
+use mathlib.Core.Bool.{Bool, true, false, not, cond, true≢false, false≢true}
 use mathlib.Core.List.{List, [], _∷_, _++_, map}
-use Prim.Native.Nat.{ℕ, _+_, _≤_}
+use Prim.Native.Nat.{ℕ, zero, suc, _+_, _-_, _≤_}
 use native.Mathlib.Omega.{arith}
-use lib.Dec.{leb}
+use lib.Dec.{eqb, leb}
 use lib.ListN.{length, replicate, length-map}
 use Rattle.std.specs.declared.option.Option.{Option}
 use Rattle.std.specs.declared.option.Option.the-variants.{Some, None}
+use Rattle.std.specs.Options.{isSome}
 use Rattle.std.proofs.shelf.Tests.{leb-true, le-leb}
 use Rattle.records.specs.declared.fields.Row.{Row}
 use Rattle.records.specs.declared.fields.StepFields.{StepFields}
 use Rattle.records.specs.declared.record.Chain.{Chain}
 use Rattle.records.specs.Ranges.{within, bad-step-field, step-fits, row-fits}
-use Rattle.records.proofs.InRange.{within-true, chain-in-range}
+use Rattle.records.proofs.InRange.{within-true, chain-in-range, row-in-range, row-fits-from}
 use Rattle.rules.specs.Rules.{Meaning, Laws}
 use Rattle.rules.proofs.Lists.{Each, each-append, each-front, under-zeros}
 use Rattle.law.specs.declared.answers.Answer.{Answer}
@@ -22,8 +23,8 @@ use Rattle.law.specs.declared.answers.Refusal.{Refusal}
 use Rattle.law.specs.declared.answers.Refusal.the-variants.{NotSolved, NothingCarries}
 use Rattle.law.specs.Assignments.{Held, rows-of, Least, Rounds}
 use Rattle.law.specs.Refusals.{forgets}
-use Rattle.law.specs.Runs.{Call, Run, row-of, holding, held, holds, steps-of, first-bad, need, need-fields, add-answer, at-step, told, current, Start, Counted, Solves, Tells, Right, Lawful}
-use Rattle.law.specs.Runs.Call.{add, solve, ask}
+use Rattle.law.specs.Runs.{Call, Run, row-of, holding, without, costing, with-cost, recosted-chain, recosted, held, holds, steps-of, first-bad, need, need-fields, add-answer, drop-answer, at-step, recost-answer, told, standing, current, Start, Counted, Solves, Tells, Right, Lawful}
+use Rattle.law.specs.Runs.Call.{add, drop, recost, solve, ask}
 use Rattle.law.specs.Runs.Solves.{finds, finds-none}
 use Rattle.law.proofs.Core.{least-same, Fits, Fine, Ready, Ends, ready-zeros, ready-least, ready-push, least-round, rounds-end, rounds-bound, rounds-fewest, rounds-same, rounds-exist}
 
@@ -65,13 +66,25 @@ add-or cs c steps =
     need-fields-or (first-bad steps) _ (need-or (within 1 16 (length steps)) _ _ refl (need-or (leb (length cs + 1) 16) _ _ refl
     (need-or (leb (length (rows-of cs) + length steps) 64) _ _ refl (need-or (not (holds cs (c .fields .id))) _ _ refl as-wanted))))
 
--- a refused add forgets nothing
+drop-or : (cs : List Held) (i : ℕ) → OrRefused Done (drop-answer cs i)
+drop-or cs i = need-or (holds cs i) _ _ refl as-wanted
+
+recost-or : (cs : List Held) (i k cost : ℕ) → OrRefused Done (recost-answer cs i k cost)
+recost-or cs i k cost = at-step-or cs i k _ (need-or (within 1 1000000 cost) _ _ refl as-wanted)
+
+-- a refused add, drop or recost forgets nothing
+refusal-mild : {a : Answer} {why : Refusal} → OrRefused Done a → Refused why ≡ a → forgets why ≡ false
+refusal-mild as-wanted e = absurd (not-refused (sym e))
+refusal-mild {why = why} (refusal {why = other} f) e = let s : why ≡ other = cc in rw s f
+
 pub add-refusal-mild : (cs : List Held) (c : Chain) (steps : List StepFields) (why : Refusal) → Refused why ≡ add-answer cs c steps → forgets why ≡ false
-add-refusal-mild cs c steps why e = by (add-or cs c steps) e
-  where
-    by : {a : Answer} → OrRefused Done a → Refused why ≡ a → forgets why ≡ false
-    by as-wanted e = absurd (not-refused (sym e))
-    by (refusal {why = other} f) e = let s : why ≡ other = cc in rw s f
+add-refusal-mild cs c steps why e = refusal-mild (add-or cs c steps) e
+
+pub drop-refusal-mild : (cs : List Held) (i : ℕ) (why : Refusal) → Refused why ≡ drop-answer cs i → forgets why ≡ false
+drop-refusal-mild cs i why e = refusal-mild (drop-or cs i) e
+
+pub recost-refusal-mild : (cs : List Held) (i k cost : ℕ) (why : Refusal) → Refused why ≡ recost-answer cs i k cost → forgets why ≡ false
+recost-refusal-mild cs i k cost why e = refusal-mild (recost-or cs i k cost) e
 
 -- ## The chains held are fine
 
@@ -115,11 +128,65 @@ added-fine cs c steps d =
       arrival = range .arrival;
     }
 
+-- the cost of a recost that is done is in range
+pub recost-done : (cs : List Held) (i k cost : ℕ) → Done ≡ recost-answer cs i k cost → (1 ≤ cost) × (cost ≤ 1000000)
+recost-done cs i k cost e =
+    let (a, e) = need-done (holds cs i) _ _ e in
+    let (b, e) = need-done (within 1 (steps-of cs i) k) _ _ e in
+    within-true 1 1000000 cost (need-done (within 1 1000000 cost) _ _ e .0)
+
+pub length-with-cost : (k cost : ℕ) (rs : List Row) → length (with-cost k cost rs) ≡ length rs
+length-with-cost k cost [] = refl
+length-with-cost zero cost (r ∷ rs) = refl
+length-with-cost (suc k) cost (r ∷ rs) = ap suc (length-with-cost k cost rs)
+
+-- a row that fits does so at another cost in range
+pub costing-fits : (cost : ℕ) (r : Row) → (1 ≤ cost) × (cost ≤ 1000000) → Fits r → Fits (costing cost r)
+costing-fits cost r range f =
+    let i = row-in-range r f in
+    let s = i .step in
+    row-fits-from (costing cost r)
+    (record {
+      period = i .period;
+      step = record { node = s .node; cost = range; local = s .local; delay = s .delay; blocking = s .blocking; priority = s .priority };
+    })
+
+fits-with-cost : (k cost : ℕ) (rs : List Row) → (1 ≤ cost) × (cost ≤ 1000000) → Each Fits rs → Each Fits (with-cost k cost rs)
+fits-with-cost k cost [] c f = tt
+fits-with-cost zero cost (r ∷ rs) c f = (costing-fits cost r c (f .0), f .1)
+fits-with-cost (suc k) cost (r ∷ rs) c f = (f .0, fits-with-cost k cost rs c (f .1))
+
+recosted-fine : (k cost : ℕ) → (1 ≤ cost) × (cost ≤ 1000000) → (c : Held) → Fine c → Fine (recosted-chain k cost c)
+recosted-fine k cost range c f =
+    record {
+      some-row = rw (length-with-cost (k - 1) cost (c .rows)) (f .some-row);
+      fits = fits-with-cost (k - 1) cost (c .rows) range (f .fits);
+      deadline = f .deadline;
+      arrival = f .arrival;
+    }
+
+-- what holds of both sides holds of the side that a test takes
+pub either : {A : Type 0} (P : A → Type 0) (b : Bool) (x y : A) → P x → P y → P (cond b x y)
+either P true x y p q = p
+either P false x y p q = q
+
+-- what holds of each chain holds of each when one is dropped, or is recosted
+pub each-without : (P : Held → Type 0) (i : ℕ) (cs : List Held) → Each P cs → Each P (without i cs)
+each-without P i [] p = tt
+each-without P i (c ∷ cs) p = either (Each P) (eqb (c .chain .id) i) cs (c ∷ without i cs) (p .1) (p .0, each-without P i cs (p .1))
+
+pub each-recosted : (P : Held → Type 0) (i k cost : ℕ) (cs : List Held) → ((c : Held) → P c → P (recosted-chain k cost c)) → Each P cs → Each P (recosted i k cost cs)
+each-recosted P i k cost [] f p = tt
+each-recosted P i k cost (c ∷ cs) f p =
+    either (Each P) (eqb (c .chain .id) i) (recosted-chain k cost c ∷ cs) (c ∷ recosted i k cost cs) (f c (p .0), p .1) (p .0, each-recosted P i k cost cs f (p .1))
+
 -- ## What a right answer can be
 
 -- the kinds of call with a right answer
 pub data Kind (answer : Meaning) (h : Run) : Call → Answer → Type 0 where
   added : {c : Chain} {steps : List StepFields} → Done ≡ add-answer (held h) c steps → Kind answer h (add c steps) Done
+  dropped : {i : ℕ} → Kind answer h (drop i) Done
+  recosts : {i k cost : ℕ} → Done ≡ recost-answer (held h) i k cost → Kind answer h (recost i k cost) Done
   found : {n : ℕ} {xs : List ℕ} → Least answer (held h) xs → Kind answer h solve (Solved n)
   found-none : {n : ℕ} → Kind answer h solve (Refused (NothingCarries n))
   asked : {i k j r : ℕ} → Kind answer h (ask i k) (Told (record { jitter = j; response = r }))
@@ -140,12 +207,16 @@ module _ (answer : Meaning) (h : Run) where
 
   pub kind : (c : Call) (a : Answer) → Right answer h c a → Kind answer h c a
   kind (add c steps) a e = kind-or (λ w. added (sym w ∙ e)) (rw (← e) at (add-or (held h) c steps))
+  kind (drop i) a e = kind-or (λ w. dropped) (rw (← e) at (drop-or (held h) i))
+  kind (recost i k cost) a e = kind-or (λ w. recosts (sym w ∙ e)) (rw (← e) at (recost-or (held h) i k cost))
   kind solve a s = kind-solve s
   kind (ask i k) a t = kind-ask i k a (current h) refl t
 
 -- the chains held after a lawful run are fine
 fine-after : {answer : Meaning} {h : Run} {c : Call} {a : Answer} → Each Fine (held h) → Kind answer h c a → Each Fine (held ((c, a) ∷ h))
 fine-after {h = h} f (added {c} {steps} e) = each-append Fine (held h) (holding c steps ∷ []) f (added-fine (held h) c steps (add-done (held h) c steps e), tt)
+fine-after {h = h} f (dropped {i}) = each-without Fine i (held h) f
+fine-after {h = h} f (recosts {i} {k} {cost} e) = each-recosted Fine i k cost (held h) (recosted-fine k cost (recost-done (held h) i k cost e)) f
 fine-after f (found least) = f
 fine-after f found-none = f
 fine-after f asked = f
@@ -160,6 +231,8 @@ fine-held answer ((c, a) ∷ h) l = fine-after (fine-held answer h (l .1)) (kind
 -- after a lawful run there is one start, and it is ready
 start-after : {answer : Meaning} {h : Run} {c : Call} {a : Answer} → (xs : List ℕ) × Start answer h xs → Kind answer h c a → (ys : List ℕ) × Start answer ((c, a) ∷ h) ys
 start-after w (added e) = (_, Start.over-add (w .1))
+start-after w dropped = (_, Start.after-drop)
+start-after w (recosts e) = (_, Start.after-recost)
 start-after w (found least) = (_, Start.after-solve least)
 start-after w found-none = (_, Start.after-nothing)
 start-after w asked = (_, Start.over-question (w .1))
@@ -174,6 +247,8 @@ start-same Start.new Start.new = refl
 start-same (Start.after-solve p) (Start.after-solve q) = least-same p q
 start-same Start.after-nothing Start.after-nothing = refl
 start-same Start.after-nothing (Start.over-refusal f t) = absurd (true≢false f)
+start-same Start.after-drop Start.after-drop = refl
+start-same Start.after-recost Start.after-recost = refl
 start-same (Start.over-add {steps = steps} s) (Start.over-add t) = ap (λ xs. xs ++ replicate (length steps) 0) (start-same s t)
 start-same (Start.over-question s) (Start.over-question t) = start-same s t
 start-same (Start.over-refusal f s) (Start.over-refusal g t) = start-same s t
@@ -184,6 +259,8 @@ module _ (answer : Meaning) (laws : Laws answer) where
   start-ready f Start.new = ready-zeros answer laws [] f
   start-ready f (Start.after-solve {h} least) = ready-least answer laws (held h) f least
   start-ready f (Start.after-nothing {h}) = ready-zeros answer laws (held h) f
+  start-ready {h} f Start.after-drop = ready-zeros answer laws (held h) f
+  start-ready {h} f Start.after-recost = ready-zeros answer laws (held h) f
   start-ready f (Start.over-add {h} {c} {steps} s) =
       rw (length-map steps (row-of (c .fields .period))) at (ready-push answer laws (held h) (holding c steps) f (start-ready (each-front Fine (held h) (holding c steps ∷ []) f) s))
   start-ready f (Start.over-question s) = start-ready f s
@@ -243,15 +320,17 @@ module _ (answer : Meaning) (laws : Laws answer) (h : Run) where
 abbrev pub Stands : Meaning → Run → Type 0
 Stands answer h = (xs : List ℕ) × Start answer h xs × Least answer (held h) xs
 
-stays : (why : Refusal) (b : Bool) → forgets why ≡ false → (not (forgets why) && b) ≡ true → b ≡ true
-stays why b f e = rw f at e
+stays : (why : Refusal) (o : Option ℕ) → forgets why ≡ false → isSome (cond (forgets why) None o) ≡ true → isSome o ≡ true
+stays why o f e = rw f at e
 
 stands-after : {answer : Meaning} {h : Run} {c : Call} {a : Answer} → (current h ≡ true → Stands answer h) → Kind answer h c a → current ((c, a) ∷ h) ≡ true → Stands answer ((c, a) ∷ h)
 stands-after s (added e) t = absurd (false≢true t)
+stands-after s dropped t = absurd (false≢true t)
+stands-after s (recosts e) t = absurd (false≢true t)
 stands-after s (found least) t = (_, Start.after-solve least, least)
 stands-after s found-none t = absurd (false≢true t)
 stands-after s asked t = let w = s t in (w .0, Start.over-question (w .1), w .2)
-stands-after {h = h} s (turned-down {why = why} f) t = let w = s (stays why (current h) f t) in (w .0, Start.over-refusal f (w .1), w .2)
+stands-after {h = h} s (turned-down {why = why} f) t = let w = s (stays why (standing h) f t) in (w .0, Start.over-refusal f (w .1), w .2)
 
 pub current-stands : (answer : Meaning) (h : Run) → Lawful answer h → current h ≡ true → Stands answer h
 current-stands answer [] l t = absurd (false≢true t)
@@ -269,6 +348,8 @@ module _ (answer : Meaning) (laws : Laws answer) (h : Run) (l : Lawful answer h)
   -- every call has a right answer
   pub answered : (c : Call) → (a : Answer) × Right answer h c a
   answered (add c steps) = (_, refl)
+  answered (drop i) = (_, refl)
+  answered (recost i k cost) = (_, refl)
   answered solve =
       let f = fine-held answer h l in
       let (n, end, rs, c) = counted-exists answer laws f (start-exists answer h l .1) in
@@ -286,5 +367,7 @@ module _ (answer : Meaning) (laws : Laws answer) (h : Run) (l : Lawful answer h)
   -- and only one
   pub right-same : (c : Call) (a b : Answer) → Right answer h c a → Right answer h c b → a ≡ b
   right-same (add c steps) a b p q = cc
+  right-same (drop i) a b p q = cc
+  right-same (recost i k cost) a b p q = cc
   right-same solve a b p q = solves-same answer laws h a b (fine-held answer h l) p q
   right-same (ask i k) a b p q = ask-same i k a b (current h) refl p q

@@ -22,14 +22,14 @@ use Rattle.law.specs.declared.answers.Answer.the-variants.{Done, Refused}
 use Rattle.law.specs.declared.answers.Refusal.{Refusal}
 use Rattle.law.specs.Assignments.{Held, rows-of, deadlines-of, jitters-of, Round, Rounds, total}
 use Rattle.law.specs.Refusals.{forgets}
-use Rattle.law.specs.Runs.{Call, Run, held, add-answer, at-step, told, current, Start, Solves, Tells, Lawful}
-use Rattle.law.specs.Runs.Call.{add, solve, ask}
+use Rattle.law.specs.Runs.{Call, Run, held, add-answer, drop-answer, recost-answer, at-step, told, standing, current, Start, Solves, Tells, Lawful}
+use Rattle.law.specs.Runs.Call.{add, drop, recost, solve, ask}
 use Rattle.law.specs.Runs.Solves.{finds, finds-none}
-use Rattle.law.specs.State.{Contents, new-plan, added, kept-within, behind, all-of, row-response, round, same, Outcome, one-more, rounds-from, solving, solve-answer, solved-with, ask-answer, Leads, Keeps}
+use Rattle.law.specs.State.{Contents, new-plan, added, dropped, recosts, kept-within, behind, all-of, row-response, round, same, Outcome, one-more, rounds-from, solving, solve-answer, solved-with, ask-answer, Leads, Keeps}
 use Rattle.law.specs.Determined.{Determined}
 use Rattle.law.proofs.Core.{Fine, Ends, length-deadlines}
-use Rattle.law.proofs.RunLaw.{Kind, kind, fine-held, counted-exists, counted-ends, start-same, verdict, verdict-solves, current-stands, answered, right-same, add-refusal-mild}
-use Rattle.law.proofs.RunLaw.Kind.{added as was-added, turned-down, asked, found, found-none}
+use Rattle.law.proofs.RunLaw.{Kind, kind, fine-held, counted-exists, counted-ends, start-same, verdict, verdict-solves, current-stands, answered, right-same, add-refusal-mild, drop-refusal-mild, recost-refusal-mild}
+use Rattle.law.proofs.RunLaw.Kind.{turned-down, asked}
 
 pub determined : (answer : Meaning) → Laws answer → Determined answer
 determined answer laws h l call =
@@ -191,10 +191,28 @@ module _ (answer : Meaning) where
   pub add-refused-keeps : (s : Contents) (c : Chain) (steps : List StepFields) (why : Refusal) → Refused why ≡ add-answer (s .chains) c steps → Keeps answer s (add c steps) (Refused why) s
   add-refused-keeps s c steps why e h l = refused-keeps s (add c steps) why h (add-refusal-mild (s .chains) c steps why e) (rw (l .chains) at e, l .lawful) l
 
+  -- ## Drop and recost
+
+  pub drop-keeps : (s : Contents) (i : ℕ) → Done ≡ drop-answer (s .chains) i → Keeps answer s (drop i) Done (dropped s i)
+  drop-keeps s i e h l =
+      let e : Done ≡ drop-answer (held h) i = rw (l .chains) at e in
+      record { lawful = (e, l .lawful); chains = rw (l .chains); starts = rw (l .chains) Start.after-drop; stands = refl }
+
+  pub drop-refused-keeps : (s : Contents) (i : ℕ) (why : Refusal) → Refused why ≡ drop-answer (s .chains) i → Keeps answer s (drop i) (Refused why) s
+  drop-refused-keeps s i why e h l = refused-keeps s (drop i) why h (drop-refusal-mild (s .chains) i why e) (rw (l .chains) at e, l .lawful) l
+
+  pub recost-keeps : (s : Contents) (i k cost : ℕ) → Done ≡ recost-answer (s .chains) i k cost → Keeps answer s (recost i k cost) Done (recosts s i k cost)
+  recost-keeps s i k cost e h l =
+      let e : Done ≡ recost-answer (held h) i k cost = rw (l .chains) at e in
+      record { lawful = (e, l .lawful); chains = rw (l .chains); starts = rw (l .chains) Start.after-recost; stands = refl }
+
+  pub recost-refused-keeps : (s : Contents) (i k cost : ℕ) (why : Refusal) → Refused why ≡ recost-answer (s .chains) i k cost → Keeps answer s (recost i k cost) (Refused why) s
+  recost-refused-keeps s i k cost why e h l = refused-keeps s (recost i k cost) why h (recost-refusal-mild (s .chains) i k cost why e) (rw (l .chains) at e, l .lawful) l
+
 -- ## Solve
 
 module _ (answer : Meaning) (laws : Laws answer) where
-  pub solve-keeps : (s : Contents) → Keeps answer s solve (solve-answer (solving answer s)) (solved-with s (solving answer s .responses))
+  pub solve-keeps : (s : Contents) → Keeps answer s solve (solve-answer (solving answer s)) (solved-with s (solving answer s))
   solve-keeps s h l =
       let fine = fine-held answer h (l .lawful) in
       let (n, end, rs, counted) = counted-exists answer laws fine (l .starts) in
@@ -202,7 +220,7 @@ module _ (answer : Meaning) (laws : Laws answer) where
       rw (l .chains) (rounds-computed rs _ (counted .bound)) in
       rw computed (by n end (verdict-solves answer laws h n end fine counted) (counted-ends answer laws fine counted))
     where
-      by : (n : ℕ) (end : Option (List ℕ)) → Solves answer h (verdict n end) → Ends answer (held h) end → Leads answer ((solve, verdict n end) ∷ h) (solved-with s end)
+      by : (n : ℕ) (end : Option (List ℕ)) → Solves answer h (verdict n end) → Ends answer (held h) end → Leads answer ((solve, verdict n end) ∷ h) (solved-with s (record { rounds = n; responses = end }))
       by n None v ends = record { lawful = (v, l .lawful); chains = l .chains; starts = rw (l .chains) Start.after-nothing; stands = refl }
       by n (Some xs) v ends = record { lawful = (v, l .lawful); chains = l .chains; starts = Start.after-solve ends; stands = refl }
 

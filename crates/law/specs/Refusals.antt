@@ -3,7 +3,7 @@ use mathlib.Core.Bool.{Bool}
 use Prim.Native.Nat.{ℕ}
 use lib.Dec.{eqb}
 use Rattle.law.specs.declared.answers.Refusal.{Refusal}
-use Rattle.law.specs.declared.answers.Refusal.the-variants.{Field, StepCount, ChainsFull, StepsFull, IdHeld, IdUnknown, NoSuchStep, NotSolved, NothingCarries}
+use Rattle.law.specs.declared.answers.Refusal.the-variants.{Field, StepCount, ChainsFull, StepsFull, IdHeld, IdUnknown, NoSuchStep, CostOutOfRange, NotSolved, NothingCarries}
 
 abbrev pub number-of : Refusal → ℕ
 number-of (Field fault) = 1
@@ -13,6 +13,7 @@ number-of StepsFull = 4
 number-of IdHeld = 5
 number-of IdUnknown = 6
 number-of NoSuchStep = 7
+number-of CostOutOfRange = 8
 number-of NotSolved = 9
 number-of (NothingCarries rounds) = 10
 

@@ -9,6 +9,7 @@ use Rattle.std.specs.declared.option.Option.{Option}
 use Rattle.std.specs.declared.option.Option.the-variants.{Some, None}
 use Rattle.std.specs.declared.result.Result.{Result}
 use Rattle.std.specs.declared.result.Result.the-variants.{Ok, Err}
+use Rattle.std.specs.Options.{isSome}
 use Rattle.records.specs.declared.fields.StepFields.{StepFields}
 use Rattle.records.specs.declared.record.Chain.{Chain}
 use Rattle.rules.specs.Rules.{Meaning}
@@ -16,29 +17,41 @@ use Rattle.law.specs.declared.answers.Answer.{Answer}
 use Rattle.law.specs.declared.answers.Answer.the-variants.{Done, Solved, Told, Refused}
 use Rattle.law.specs.declared.answers.Refusal.{Refusal}
 use Rattle.law.specs.declared.answers.Refusal.the-variants.{NotSolved, NothingCarries}
-use Rattle.law.specs.Runs.Call.{add, solve, ask}
+use Rattle.law.specs.Runs.Call.{add, drop, recost, solve, ask}
 use Rattle.law.specs.Assignments.{Held, rows-of, deadlines-of, jitters-of, zeros, total}
-use Rattle.law.specs.Runs.{Call, Run, holding, held, add-answer, at-step, told, current, Start, Lawful}
+use Rattle.law.specs.Runs.{Call, Run, holding, without, recosted, held, add-answer, drop-answer, recost-answer, at-step, told, standing, Start, Lawful}
 
--- what a plan holds: its chains, the responses that its next solve starts from, and whether an accepted solve stands
+-- what a plan holds: its chains, the responses that its next solve starts from, and the rounds of the accepted solve that stands, if one does
 pub record Contents : Type 0 where
   pub chains : List Held
   pub start : List ℕ
-  pub solved : Bool
+  pub standing : Option ℕ
 
 abbrev pub new-plan : Contents
-new-plan = record { chains = []; start = []; solved = false }
+new-plan = record { chains = []; start = []; standing = None }
 
 -- what a call's result says as an answer
 abbrev pub answer-of : {A : Type 0} → (A → Answer) → Result A Refusal → Answer
 answer-of told (Ok a) = told a
 answer-of told (Err why) = Refused why
 
--- ## Add
+-- ## Add, drop and recost
 
 -- after an accepted add: the chain is the last, its rows start from 0, and no solve stands
 abbrev pub added : Contents → Chain → List StepFields → Contents
-added s c steps = record { chains = s .chains ++ holding c steps ∷ []; start = s .start ++ replicate (length steps) 0; solved = false }
+added s c steps = record { chains = s .chains ++ holding c steps ∷ []; start = s .start ++ replicate (length steps) 0; standing = None }
+
+-- these chains with all responses forgotten
+abbrev pub anew : List Held → Contents
+anew cs = record { chains = cs; start = zeros cs; standing = None }
+
+-- after an accepted drop: the chain is out, and the later ones close up
+abbrev pub dropped : Contents → ℕ → Contents
+dropped s i = anew (without i (s .chains))
+
+-- after an accepted recost: another cost at one step
+abbrev pub recosts : Contents → ℕ → ℕ → ℕ → Contents
+recosts s i k cost = anew (recosted i k cost (s .chains))
 
 -- ## Solve
 
@@ -98,20 +111,21 @@ abbrev pub solve-answer : Outcome → Answer
 solve-answer o = elim (o .responses) [ Some xs ↦ Solved (o .rounds) | None ↦ Refused (NothingCarries (o .rounds)) ]
 
 -- after a solve: what it settled in is kept and stands; else all is forgotten but the chains
-abbrev pub solved-with : Contents → Option (List ℕ) → Contents
-solved-with s (Some xs) = record { chains = s .chains; start = xs; solved = true }
-solved-with s None = record { chains = s .chains; start = zeros (s .chains); solved = false }
+abbrev pub solved-with : Contents → Outcome → Contents
+solved-with s o = elim (o .responses) [ Some xs ↦ record { chains = s .chains; start = xs; standing = Some (o .rounds) } | None ↦ anew (s .chains) ]
 
 -- ## Ask
 
 abbrev pub ask-answer : Contents → ℕ → ℕ → Answer
-ask-answer s i k = at-step (s .chains) i k (cond (s .solved) (told (s .chains) (s .start) i k) (Refused NotSolved))
+ask-answer s i k = at-step (s .chains) i k (cond (isSome (s .standing)) (told (s .chains) (s .start) i k) (Refused NotSolved))
 
 -- ## Any call
 
 -- what a call answers
 abbrev pub call-answer : Meaning → Contents → Call → Answer
 call-answer answer s (add c steps) = add-answer (s .chains) c steps
+call-answer answer s (drop i) = drop-answer (s .chains) i
+call-answer answer s (recost i k cost) = recost-answer (s .chains) i k cost
 call-answer answer s solve = solve-answer (solving answer s)
 call-answer answer s (ask i k) = ask-answer s i k
 
@@ -124,7 +138,9 @@ is-done (Refused why) = false
 -- what a plan holds after a call
 abbrev pub call-after : Meaning → Contents → Call → Contents
 call-after answer s (add c steps) = cond (is-done (add-answer (s .chains) c steps)) (added s c steps) s
-call-after answer s solve = solved-with s (solving answer s .responses)
+call-after answer s (drop i) = cond (is-done (drop-answer (s .chains) i)) (dropped s i) s
+call-after answer s (recost i k cost) = cond (is-done (recost-answer (s .chains) i k cost)) (recosts s i k cost) s
+call-after answer s solve = solved-with s (solving answer s)
 call-after answer s (ask i k) = s
 
 -- what calls made one after another answer, and what a plan holds after them
@@ -150,7 +166,7 @@ module _ (answer : Meaning) where
     pub lawful : Lawful answer h
     pub chains : s .chains ≡ held h
     pub starts : Start answer h (s .start)
-    pub stands : s .solved ≡ current h
+    pub stands : s .standing ≡ standing h
 
   -- a call's step of the law over runs: whatever run led to the plan, with this call and its answer it is lawful still, and leads to the plan after
   abbrev pub Keeps : Contents → Call → Answer → Contents → Type 0

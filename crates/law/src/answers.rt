@@ -18,6 +18,8 @@ pub enum Refusal {
     IdUnknown,
     // the step number is 0 or past the last
     NoSuchStep,
+    // the new cost of a step is out of range
+    CostOutOfRange,
     // changed or refused since the last accepted solve, or never solved
     NotSolved,
     // no assignment carries the chains

@@ -27,6 +27,7 @@ impl Refusal {
             Refusal::IdHeld => 5,
             Refusal::IdUnknown => 6,
             Refusal::NoSuchStep => 7,
+            Refusal::CostOutOfRange => 8,
             Refusal::NotSolved => 9,
             Refusal::NothingCarries { .. } => 10,
         }

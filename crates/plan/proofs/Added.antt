@@ -54,12 +54,12 @@ module _ {t t' : Table} (room : Room t) (c : Chain) (steps : List StepFields) (w
       let l = length-table-rows room in
       let push = chains-push (entries-of t) (record { fields = c .fields; steps = length steps }) (table-rows t) (map (row-of (c .fields .period)) steps)
       (room .counted ∙ sym l) (sym (length-map steps (row-of (c .fields .period)))) in
-      rw (w .entry, w .row, w .start, w .current, push)
+      rw (w .entry, w .row, w .start, w .standing, push)
 
   pub add-accepted : (answer : Meaning) → Done ≡ add-answer (chains-of t) c steps → AddMade answer (contents t) (contents t') c steps Done
   add-accepted answer e = record { value = e; run = rw contents-added (add-keeps answer (contents t) c steps e) }
 
-passes-append : {A : Type 0} (p : A → Bool) (xs ys : List A) → each-passes p xs ≡ true → each-passes p ys ≡ true → each-passes p (xs ++ ys) ≡ true
+pub passes-append : {A : Type 0} (p : A → Bool) (xs ys : List A) → each-passes p xs ≡ true → each-passes p ys ≡ true → each-passes p (xs ++ ys) ≡ true
 passes-append p [] ys e f = f
 passes-append p (x ∷ xs) ys e f = let (a, b) = and-true (p x) (each-passes p xs) e in rw a (passes-append p xs ys b f)
 

@@ -23,13 +23,13 @@ use Rattle.law.specs.Runs.{row-of, holds, first-row, steps-of, first-bad, room-
 use Rattle.plan.specs.declared.table.Entry.{Entry}
 use Rattle.plan.specs.declared.table.Span.{Span}
 use Rattle.plan.specs.declared.table.Table.{Table}
-use Rattle.plan.specs.Contents.{entries-of, table-rows, responses-of, span-of, Whole, RowsAppended, Appended}
+use Rattle.plan.specs.Contents.{entries-of, table-rows, responses-of, chain-number, span-of, Whole, RowsAppended, Appended}
 
 -- where the loop that writes the rows stands: k steps are written behind the rows of `t`
 pub record Writing (t : Table) (period : ℕ) (steps : List StepFields) (k : ℕ) (s : Table) : Type 0 where
   pub entries : s .entries ≡ t .entries
   pub chains : s .«entry_count» ≡ t .«entry_count»
-  pub current : s .current ≡ t .current
+  pub standing : s .standing ≡ t .standing
   pub whole : Whole s
   pub row : take (t .«row_count» + k) (s .rows) ≡ table-rows t ++ map (row-of period) (take k steps)
   pub start : take (t .«row_count» + k) (s .responses) ≡ responses-of t ++ replicate k 0
@@ -43,7 +43,7 @@ module _ (t : Table) (period : ℕ) (steps : List StepFields) (fits : t .«row_c
       record {
         entries = refl;
         chains = refl;
-        current = refl;
+        standing = refl;
         whole = whole;
         row = rw (add-zero (t .«row_count»)) (sym (append-nil (table-rows t)));
         start = rw (add-zero (t .«row_count»)) (sym (append-nil (responses-of t)));
@@ -58,7 +58,7 @@ module _ (t : Table) (period : ℕ) (steps : List StepFields) (fits : t .«row_c
         rows = set (s .rows) (t .«row_count» + k) (record { period = period; step = getD steps k no-step });
         «row_count» = s .«row_count»;
         responses = set (s .responses) (t .«row_count» + k) 0;
-        current = s .current;
+        standing = s .standing;
       }
 
   pub writing-next : (k : ℕ) (s : Table) → k < length steps → Writing t period steps k s → Writing t period steps (k + 1) (written k s)
@@ -68,7 +68,7 @@ module _ (t : Table) (period : ℕ) (steps : List StepFields) (fits : t .«row_c
       record {
         entries = w .entries;
         chains = w .chains;
-        current = w .current;
+        standing = w .standing;
         whole = record { entries = w .whole .entries; rows = simp length-set a; responses = simp length-set b };
         row = rw (
           ← add-assoc (t .«row_count») k 1,
@@ -88,7 +88,7 @@ module _ (t : Table) (period : ℕ) (steps : List StepFields) (fits : t .«row_c
       }
 
   pub writing-ends : (k : ℕ) (s s' : Table) → k ≡ length steps → Writing t period steps k s →
-      s' ≡ record { entries = s .entries; «entry_count» = s .«entry_count»; rows = s .rows; «row_count» = t .«row_count» + length steps; responses = s .responses; current = s .current } →
+      s' ≡ record { entries = s .entries; «entry_count» = s .«entry_count»; rows = s .rows; «row_count» = t .«row_count» + length steps; responses = s .responses; standing = s .standing } →
       RowsAppended t period steps s'
   writing-ends k s s' e w is =
       rw is (record {
@@ -109,7 +109,7 @@ pub appended : (t s : Table) (fields : ChainFields) (steps : List StepFields) �
       rows = s .rows;
       «row_count» = s .«row_count»;
       responses = s .responses;
-      current = false;
+      standing = None;
     })
 appended t s fields steps few w =
     let e = w .whole .entries in
@@ -120,7 +120,7 @@ appended t s fields steps few w =
       entry = rw (take-more-set (s .entries) (s .«entry_count») (record { fields = fields; steps = length steps }) (omega arith), n, w .entries);
       row = w .row;
       start = w .start;
-      current = refl;
+      standing = refl;
       whole = record { entries = simp length-set e; rows = w .whole .rows; responses = w .whole .responses };
     }
 
@@ -151,7 +151,7 @@ good-here steps k h e = first-here steps k None h e
 pub some-span : (cs : List Held) (i : ℕ) → isSome (span-of cs i) ≡ holds cs i
 some-span cs i = by (holds cs i)
   where
-    by : (b : Bool) → isSome {T = Span} (cond b (Some (record { first = first-row cs i; steps = steps-of cs i })) None) ≡ b
+    by : (b : Bool) → isSome {T = Span} (cond b (Some (record { entry = chain-number cs i; first = first-row cs i; steps = steps-of cs i })) None) ≡ b
     by true = refl
     by false = refl
 

@@ -9,6 +9,7 @@ use lib.ListN.{length, getD, length-append}
 use Rattle.std.specs.declared.option.Option.the-variants.{Some, None}
 use Rattle.std.specs.declared.result.Result.{Result}
 use Rattle.std.specs.declared.result.Result.the-variants.{Ok, Err}
+use Rattle.std.specs.Options.{isSome}
 use Rattle.std.proofs.shelf.Tests.{le-leb}
 use Rattle.records.specs.Ranges.{within}
 use Rattle.rules.specs.Rules.{Meaning}
@@ -22,7 +23,7 @@ use Rattle.law.specs.Runs.Call.{ask}
 use Rattle.law.specs.State.{Contents, ask-answer, Keeps}
 use Rattle.law.proofs.Steps.{ask-keeps}
 use Rattle.plan.specs.declared.table.Span.{Span}
-use Rattle.plan.specs.Contents.{span-of, row-named}
+use Rattle.plan.specs.Contents.{chain-number, span-of, row-named}
 
 -- ## The row of a named step
 
@@ -38,14 +39,15 @@ place-inside (c ∷ cs) i k a b = by (eqb (c .chain .id) i) b (place-inside cs i
 
 pub record Spans (cs : List Held) (i : ℕ) (s : Span) : Type 0 where
   pub holds : holds cs i ≡ true
+  pub entry : s .entry ≡ chain-number cs i
   pub first : s .first ≡ first-row cs i
   pub steps : s .steps ≡ steps-of cs i
 
 pub span-shows : (cs : List Held) (i : ℕ) (s : Span) → Some s ≡ span-of cs i → Spans cs i s
 span-shows cs i s e = by (holds cs i) refl e
   where
-    by : (b : Bool) → holds cs i ≡ b → Some s ≡ cond b (Some (record { first = first-row cs i; steps = steps-of cs i })) None → Spans cs i s
-    by true t e = let f : s ≡ record { first = first-row cs i; steps = steps-of cs i } = cc in record { holds = t; first = ap (λ (x : Span). x .first) f; steps = ap (λ (x : Span). x .steps) f }
+    by : (b : Bool) → holds cs i ≡ b → Some s ≡ cond b (Some (record { entry = chain-number cs i; first = first-row cs i; steps = steps-of cs i })) None → Spans cs i s
+    by true t e = let f : s ≡ record { entry = chain-number cs i; first = first-row cs i; steps = steps-of cs i } = cc in record { holds = t; entry = ap (λ (x : Span). x .entry) f; first = ap (λ (x : Span). x .first) f; steps = ap (λ (x : Span). x .steps) f }
     by false t e = let z : _≡_ {A = ℕ} 0 1 = cc in absurd (omega arith)
 
 pub named-ok : (cs : List Held) (i k : ℕ) → holds cs i ≡ true → 1 ≤ k → k ≤ steps-of cs i → Ok (place-of cs i k) ≡ row-named cs i k
@@ -81,10 +83,10 @@ module _ (answer : Meaning) (s : Contents) (i k : ℕ) where
   pub ask-refused : (why : Refusal) → Err why ≡ row-named (s .chains) i k → AskDone answer s i k (Refused why)
   ask-refused why e = done (Refused why) (at-step-refused (s .chains) i k why _ e)
 
-  pub ask-unsolved : (row : ℕ) → Ok row ≡ row-named (s .chains) i k → s .solved ≡ false → AskDone answer s i k (Refused NotSolved)
+  pub ask-unsolved : (row : ℕ) → Ok row ≡ row-named (s .chains) i k → isSome (s .standing) ≡ false → AskDone answer s i k (Refused NotSolved)
   ask-unsolved row e f = done (Refused NotSolved) (rw f (at-step-held (s .chains) i k row (Refused NotSolved) e .0))
 
-  pub ask-told : (row jitter response : ℕ) → Ok row ≡ row-named (s .chains) i k → s .solved ≡ true →
+  pub ask-told : (row jitter response : ℕ) → Ok row ≡ row-named (s .chains) i k → isSome (s .standing) ≡ true →
       jitter ≡ getD (jitters-of (s .chains) (s .start)) row 0 → response ≡ getD (s .start) row 0 →
       AskDone answer s i k (Told (record { jitter = jitter; response = response }))
   ask-told row jitter response e f j r =

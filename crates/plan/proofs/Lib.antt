@@ -1,7 +1,10 @@
 pub mod Added
 pub mod Adding
 pub mod Asking
+pub mod Closing
+pub mod Dropping
 pub mod Memory
 pub mod Places
+pub mod Recosting
 pub mod Solving
 pub mod Timing

@@ -19,7 +19,7 @@ use Rattle.plan.specs.declared.table.Entry.{Entry}
 use Rattle.plan.specs.declared.table.Place.{Place}
 use Rattle.plan.specs.declared.table.Span.{Span}
 use Rattle.plan.specs.declared.table.Table.{Table}
-use Rattle.plan.specs.Contents.{entries-of, table-rows, chains-from, chains-of, steps-in, span-of, place-in}
+use Rattle.plan.specs.Contents.{entries-of, table-rows, chains-from, chains-of, steps-in, chain-number, span-of, place-in}
 
 -- the rows of the chains are the rows held
 pub rows-are : (es : List Entry) (rows : List Row) → steps-in es ≡ length rows → rows-of (chains-from es rows) ≡ rows
@@ -67,32 +67,36 @@ module _ {t : Table} (room : Room t) where
   pub length-rows-held : length (rows-of (chains-of t)) ≡ t .«row_count»
   length-rows-held = rw rows-held length-table-rows
 
--- ## The rows of a chain
+-- ## Where a chain stands
 
--- the rows of the chain of an id, where `first` rows stand before the entries
-abbrev pub span-from : ℕ → ℕ → List Entry → Option Span
-span-from id first [] = None
-span-from id first (e ∷ es) = cond (eqb (e .fields .id) id) (Some (record { first = first; steps = e .steps })) (span-from id (first + e .steps) es)
+-- the chain of an id, where `entry` chains and `first` rows stand before the entries
+abbrev pub span-from : ℕ → ℕ → ℕ → List Entry → Option Span
+span-from id entry first [] = None
+span-from id entry first (e ∷ es) = cond (eqb (e .fields .id) id) (Some (record { entry = entry; first = first; steps = e .steps })) (span-from id (entry + 1) (first + e .steps) es)
 
-span-after : (id first : ℕ) (es : List Entry) (rows : List Row) → steps-in es ≤ length rows →
-    let cs = chains-from es rows in
-    span-from id first es ≡ cond (holds cs id) (Some (record { first = first + first-row cs id; steps = steps-of cs id })) None
-span-after id first [] rows h = refl
-span-after id first (e ∷ es) rows h =
+-- the span of the chains behind others
+abbrev behind : ℕ → ℕ → List Held → ℕ → Option Span
+behind entry first cs id = cond (holds cs id) (Some (record { entry = entry + chain-number cs id; first = first + first-row cs id; steps = steps-of cs id })) None
+
+span-after : (id entry first : ℕ) (es : List Entry) (rows : List Row) → steps-in es ≤ length rows → span-from id entry first es ≡ behind entry first (chains-from es rows) id
+span-after id entry first [] rows h = refl
+span-after id entry first (e ∷ es) rows h =
     let d = length-drop (e .steps) rows in
-    by (eqb (e .fields .id) id) (length-take-le (e .steps) rows (omega arith)) (span-after id (first + e .steps) es (drop (e .steps) rows) (omega arith))
+    by (eqb (e .fields .id) id) (length-take-le (e .steps) rows (omega arith)) (span-after id (entry + 1) (first + e .steps) es (drop (e .steps) rows) (omega arith))
   where
     by : (b : Bool) → length (take (e .steps) rows) ≡ e .steps →
         let cs = chains-from es (drop (e .steps) rows) in
-        span-from id (first + e .steps) es ≡ cond (holds cs id) (Some (record { first = (first + e .steps) + first-row cs id; steps = steps-of cs id })) None →
-        cond b (Some (record { first = first; steps = e .steps })) (span-from id (first + e .steps) es) ≡
+        span-from id (entry + 1) (first + e .steps) es ≡ behind (entry + 1) (first + e .steps) cs id →
+        cond b (Some (record { entry = entry; first = first; steps = e .steps })) (span-from id (entry + 1) (first + e .steps) es) ≡
         cond (b || holds cs id)
-        (Some (record { first = first + cond b 0 (length (take (e .steps) rows) + first-row cs id); steps = cond b (length (take (e .steps) rows)) (steps-of cs id) })) None
-    by true l w = rw (l, add-zero first)
-    by false l w = rw (l, ← add-assoc first (e .steps) (first-row (chains-from es (drop (e .steps) rows)) id)) w
+            (Some (record { entry = entry + cond b 0 (1 + chain-number cs id); first = first + cond b 0 (length (take (e .steps) rows) + first-row cs id); steps = cond b (length (take (e .steps) rows)) (steps-of cs id) })) None
+    by true l w = rw (l, add-zero first, add-zero entry)
+    by false l w =
+        rw (l, ← add-assoc first (e .steps) (first-row (chains-from es (drop (e .steps) rows)) id), ← add-assoc entry 1 (chain-number (chains-from es (drop (e .steps) rows)) id)) w
 
-pub span-is : (id : ℕ) (es : List Entry) (rows : List Row) → steps-in es ≤ length rows → span-from id 0 es ≡ span-of (chains-from es rows) id
-span-is id es rows h = rw (← zero-add (first-row (chains-from es rows) id)) (span-after id 0 es rows h)
+pub span-is : (id : ℕ) (es : List Entry) (rows : List Row) → steps-in es ≤ length rows → span-from id 0 0 es ≡ span-of (chains-from es rows) id
+span-is id es rows h =
+    rw (← zero-add (first-row (chains-from es rows) id), ← zero-add (chain-number (chains-from es rows) id)) (span-after id 0 0 es rows h)
 
 -- ## The chain of a row
 
@@ -116,11 +120,11 @@ module _ {es : List Entry} (xs : List Entry) (e : xs ≡ es) (k : ℕ) (inside :
   pub next-steps : steps-in (drop k es) ≡ getD xs k no-entry .steps + steps-in (drop (k + 1) es)
   next-steps = rw (← e) (at-drop-more steps-in xs k no-entry inside)
 
-  pub span-hit : (id first : ℕ) → getD xs k no-entry .fields .id ≡ id → Some (record { first = first; steps = getD xs k no-entry .steps }) ≡ span-from id first (drop k es)
-  span-hit id first h = rw (← e, at-drop-more (span-from id first) xs k no-entry inside, eq-eqb (getD xs k no-entry .fields .id) id h)
+  pub span-hit : (id first : ℕ) → getD xs k no-entry .fields .id ≡ id → Some (record { entry = k; first = first; steps = getD xs k no-entry .steps }) ≡ span-from id k first (drop k es)
+  span-hit id first h = rw (← e, at-drop-more (span-from id k first) xs k no-entry inside, eq-eqb (getD xs k no-entry .fields .id) id h)
 
-  pub span-next : (id first : ℕ) → (getD xs k no-entry .fields .id ≡ id → ⊥) → span-from id (first + getD xs k no-entry .steps) (drop (k + 1) es) ≡ span-from id first (drop k es)
-  span-next id first h = rw (← e, at-drop-more (span-from id first) xs k no-entry inside, ne-eqb (getD xs k no-entry .fields .id) id h)
+  pub span-next : (id first : ℕ) → (getD xs k no-entry .fields .id ≡ id → ⊥) → span-from id (k + 1) (first + getD xs k no-entry .steps) (drop (k + 1) es) ≡ span-from id k first (drop k es)
+  span-next id first h = rw (← e, at-drop-more (span-from id k first) xs k no-entry inside, ne-eqb (getD xs k no-entry .fields .id) id h)
 
   pub place-hit : (step : ℕ) → step < getD xs k no-entry .steps → Some (record { chain = getD xs k no-entry .fields; step = step }) ≡ place-from step (drop k es)
   place-hit step h = rw (← e, at-drop-more (place-from step) xs k no-entry inside, lt-ltb step (getD xs k no-entry .steps) h)

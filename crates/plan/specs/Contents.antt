@@ -1,9 +1,9 @@
 -- What a plan holds, read off its memory. Assumes nothing.
 use mathlib.Core.Path.{_≡_}
-use mathlib.Core.Bool.{Bool, false, cond}
+use mathlib.Core.Bool.{Bool, cond}
 use mathlib.Core.List.{List, [], _∷_, _++_, map}
 use Prim.Native.Nat.{ℕ, _+_, _-_}
-use lib.Dec.{leb, ltb}
+use lib.Dec.{eqb, leb, ltb}
 use lib.ListN.{length, take, drop, replicate}
 use Rattle.std.specs.declared.option.Option.{Option}
 use Rattle.std.specs.declared.option.Option.the-variants.{Some, None}
@@ -41,6 +41,12 @@ in-use t xs = take (t .«row_count») xs
 abbrev pub responses-of : Table → List ℕ
 responses-of t = in-use t (t .responses)
 
+-- the lengths of the arrays, which their types fix
+pub record Whole (t : Table) : Type 0 where
+  pub entries : length (t .entries) ≡ 16
+  pub rows : length (t .rows) ≡ 64
+  pub responses : length (t .responses) ≡ 64
+
 -- ## What they say
 
 -- the chains with their rows, in their order
@@ -52,7 +58,7 @@ abbrev pub chains-of : Table → List Held
 chains-of t = chains-from (entries-of t) (table-rows t)
 
 abbrev pub contents : Table → Contents
-contents t = record { chains = chains-of t; start = responses-of t; solved = t .current }
+contents t = record { chains = chains-of t; start = responses-of t; standing = t .standing }
 
 -- how many steps the chains have together
 abbrev pub steps-in : List Entry → ℕ
@@ -72,9 +78,14 @@ responses-fit t xs = each-passes response-fits (in-use t xs)
 
 -- ## Where things stand in it
 
--- the rows of the chain of an id, if one is held
+-- how many chains stand before the one of an id
+abbrev pub chain-number : List Held → ℕ → ℕ
+chain-number [] i = 0
+chain-number (c ∷ cs) i = cond (eqb (c .chain .id) i) 0 (1 + chain-number cs i)
+
+-- where the chain of an id stands, if one is held
 abbrev pub span-of : List Held → ℕ → Option Span
-span-of cs i = cond (holds cs i) (Some (record { first = first-row cs i; steps = steps-of cs i })) None
+span-of cs i = cond (holds cs i) (Some (record { entry = chain-number cs i; first = first-row cs i; steps = steps-of cs i })) None
 
 -- the row of a chain's step k, counted from 1: the chain must be held and have that step
 abbrev pub row-named : List Held → ℕ → ℕ → Result ℕ Refusal
@@ -88,20 +99,14 @@ place-in (c ∷ cs) k = cond (ltb k (length (c .rows))) (Some (record { chain = 
 -- ## What a solve comes to, and leaves
 
 -- the memory with other responses to start from
-abbrev pub with-responses : Table → List ℕ → Bool → Table
-with-responses t xs current =
-    record { entries = t .entries; «entry_count» = t .«entry_count»; rows = t .rows; «row_count» = t .«row_count»; responses = xs; current = current }
+abbrev pub with-responses : Table → List ℕ → Option ℕ → Table
+with-responses t xs standing =
+    record { entries = t .entries; «entry_count» = t .«entry_count»; rows = t .rows; «row_count» = t .«row_count»; responses = xs; standing = standing }
 
 abbrev pub outcome-of : Table → Settled → Outcome
 outcome-of t r = record { rounds = r .rounds; responses = mapped (in-use t) (r .responses) }
 
 -- ## What an add leaves
-
--- the lengths of the arrays, which their types fix
-pub record Whole (t : Table) : Type 0 where
-  pub entries : length (t .entries) ≡ 16
-  pub rows : length (t .rows) ≡ 64
-  pub responses : length (t .responses) ≡ 64
 
 -- the memory with rows for more steps, behind the others, which start from 0
 pub record RowsAppended (t : Table) (period : ℕ) (steps : List StepFields) (t' : Table) : Type 0 where
@@ -119,5 +124,37 @@ pub record Appended (t : Table) (fields : ChainFields) (steps : List StepFields)
   pub entry : entries-of t' ≡ entries-of t ++ record { fields = fields; steps = length steps } ∷ []
   pub row : table-rows t' ≡ table-rows t ++ map (row-of (fields .period)) steps
   pub start : responses-of t' ≡ responses-of t ++ replicate (length steps) 0
-  pub current : t' .current ≡ false
+  pub standing : t' .standing ≡ None
+  pub whole : Whole t'
+
+-- ## What a drop leaves
+
+-- a list without `gap` elements from a place on: the later ones close up
+abbrev pub closed : {A : Type 0} → ℕ → ℕ → List A → List A
+closed at gap xs = take at xs ++ drop (at + gap) xs
+
+-- the memory without the rows of a chain
+pub record RowsClosed (t : Table) (at gap : ℕ) (t' : Table) : Type 0 where
+  pub entries : t' .entries ≡ t .entries
+  pub chains : t' .«entry_count» ≡ t .«entry_count»
+  pub rows : t' .«row_count» ≡ t .«row_count» - gap
+  pub row : table-rows t' ≡ closed at gap (table-rows t)
+  pub whole : Whole t'
+
+-- the memory without the entry of a chain
+pub record EntriesClosed (t : Table) (at : ℕ) (t' : Table) : Type 0 where
+  pub rows : t' .rows ≡ t .rows
+  pub row-count : t' .«row_count» ≡ t .«row_count»
+  pub chains : t' .«entry_count» ≡ t .«entry_count» - 1
+  pub entry : entries-of t' ≡ closed at 1 (entries-of t)
+  pub whole : Whole t'
+
+-- the memory without a chain, and with every response forgotten
+pub record Removed (t : Table) (span : Span) (t' : Table) : Type 0 where
+  pub chains : t' .«entry_count» ≡ t .«entry_count» - 1
+  pub rows : t' .«row_count» ≡ t .«row_count» - span .steps
+  pub entry : entries-of t' ≡ closed (span .entry) 1 (entries-of t)
+  pub row : table-rows t' ≡ closed (span .first) (span .steps) (table-rows t)
+  pub start : t' .responses ≡ replicate 64 0
+  pub standing : t' .standing ≡ None
   pub whole : Whole t'

@@ -41,6 +41,6 @@ impl Table {
         };
         self.entries[self.entry_count] = entry;
         self.entry_count += 1;
-        self.current = false;
+        self.standing = None;
     }
 }

@@ -16,7 +16,7 @@ impl<R: NodeRule> Plan<R> {
         ensures run { λ r. ⌜ Keeps (answer (now (self .entry) .rule)) (contents (now (self .entry) .table)) (ask-call id step) (answer-of (λ timing. Told timing) r) (contents (now (self .entry) .table)) ⌝ }
     {
         let row = self.locate(id, step)?;
-        if !self.table.current {
+        if self.table.standing.is_none() {
             return Err(Refusal::NotSolved);
         }
         let jitter = self.jitter(row, &self.table.responses);

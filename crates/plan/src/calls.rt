@@ -8,6 +8,14 @@ pub enum PlanCall {
         chain: Chain,
         steps: Vec<StepFields>,
     },
+    DropChain {
+        id: u32,
+    },
+    Recost {
+        id: u32,
+        step: u32,
+        cost: u32,
+    },
     Solve,
     Ask {
         id: u32,

@@ -28,15 +28,19 @@ impl<R> Plan<R> {
         &self.table.rows[0..self.table.row_count]
     }
 
-    // The rows of the chain of an id.
+    // Where the chain of an id stands.
     pub(crate) fn find(&self, id: u32) -> Option<Span>
         ensures { λ r. ⌜ r ≡ span-of (chains-of (now (self .entry) .table)) id ⌝ }
     {
         let mut first = 0;
-        for held in self.entries() {
+        for (index, held) in self.entries().iter().enumerate() {
             if held.fields.id == id {
                 let steps = held.steps;
-                return Some(Span { first, steps });
+                return Some(Span {
+                    entry: index,
+                    first,
+                    steps,
+                });
             }
             first += held.steps;
         }

@@ -48,7 +48,7 @@ impl<R: NodeRule> Plan<R> {
             rows: [NO_ROW; 64],
             row_count: 0,
             responses: [0; 64],
-            current: false,
+            standing: None,
         };
         Plan { rule, table }
     }

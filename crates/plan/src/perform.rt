@@ -25,6 +25,14 @@ impl<R: NodeRule> Plan<R> {
                 Ok(()) => Answer::Done,
                 Err(why) => Answer::Refused(why),
             },
+            PlanCall::DropChain { id } => match self.drop_chain(*id) {
+                Ok(()) => Answer::Done,
+                Err(why) => Answer::Refused(why),
+            },
+            PlanCall::Recost { id, step, cost } => match self.recost(*id, *step, *cost) {
+                Ok(()) => Answer::Done,
+                Err(why) => Answer::Refused(why),
+            },
             PlanCall::Solve => match self.solve() {
                 Ok(rounds) => Answer::Solved { rounds },
                 Err(why) => Answer::Refused(why),

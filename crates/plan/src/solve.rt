@@ -46,13 +46,13 @@ impl<R: NodeRule> Plan<R> {
     pub fn solve(&mut self) -> Result<u32, Refusal>
         ensures rule { λ _. ⌜ now (self .exit) .rule ≡ now (self .entry) .rule ⌝ }
         ensures value { λ r. ⌜ answer-of (λ rounds. Solved rounds) r ≡ solve-answer (solving (answer (now (self .entry) .rule)) (contents (now (self .entry) .table))) ⌝ }
-        ensures after { λ _. ⌜ contents (now (self .exit) .table) ≡ solved-with (contents (now (self .entry) .table)) (solving (answer (now (self .entry) .rule)) (contents (now (self .entry) .table)) .responses) ⌝ }
+        ensures after { λ _. ⌜ contents (now (self .exit) .table) ≡ solved-with (contents (now (self .entry) .table)) (solving (answer (now (self .entry) .rule)) (contents (now (self .entry) .table))) ⌝ }
         ensures run { λ r. ⌜ Keeps (answer (now (self .entry) .rule)) (contents (now (self .entry) .table)) solve-call (answer-of (λ rounds. Solved rounds) r) (contents (now (self .exit) .table)) ⌝ }
     {
         let Settled { rounds, responses } = self.settle();
         match responses {
             Some(kept) => {
-                self.table.keep(kept);
+                self.table.keep(kept, rounds);
                 Ok(rounds)
             }
             None => {

@@ -18,13 +18,14 @@ pub(crate) struct Table {
     pub(crate) row_count: usize,
     // where the next solve starts: the kept responses, and 0 for every other row
     pub(crate) responses: [u32; 64],
-    // an accepted solve stands
-    pub(crate) current: bool,
+    // the rounds of the accepted solve that stands, if one does
+    pub(crate) standing: Option<u32>,
 }
 
-// The rows of one chain.
+// Where one chain stands: its place among the chains, and its rows.
 #[derive(Clone, Copy)]
 pub(crate) struct Span {
+    pub(crate) entry: usize,
     pub(crate) first: usize,
     pub(crate) steps: usize,
 }

@@ -6,6 +6,7 @@ use Prim.Native.Nat.{ℕ, _+_, _≤_}
 use native.Mathlib.Omega.{arith}
 use Rattle.std.specs.declared.option.Option.{Option}
 use Rattle.std.specs.declared.option.Option.the-variants.{Some, None}
+use Rattle.std.proofs.shelf.Tests.{le-leb}
 use Rattle.std.proofs.shelf.Ways.{tells}
 use Rattle.records.specs.declared.fields.ChainFields.{ChainFields}
 use Rattle.records.specs.declared.fields.Row.{Row}
@@ -77,3 +78,17 @@ pub row-in-range : (r : Row) → row-fits r ≡ true → RowInRange r
 row-in-range r e =
     let (p, s) = and-true (within 1 1000000 (r .period)) (step-fits (r .step)) e in
     record { period = within-true 1 1000000 (r .period) p; step = step-in-range (r .step) s }
+
+-- and the other way: ranges make a row fit
+pub row-fits-from : (r : Row) → RowInRange r → row-fits r ≡ true
+row-fits-from r i =
+    let s = i .step in
+    rw (
+      le-leb 1 (r .period) (i .period .0), le-leb (r .period) 1000000 (i .period .1),
+      le-leb 1 (r .step .node) (s .node .0), le-leb (r .step .node) 8 (s .node .1),
+      le-leb 1 (r .step .cost) (s .cost .0), le-leb (r .step .cost) 1000000 (s .cost .1),
+      le-leb 1 (r .step .local .ticks) (s .local .0), le-leb (r .step .local .ticks) 1000000 (s .local .1),
+      le-leb 0 (r .step .delay) (omega arith), le-leb (r .step .delay) 1000000 (s .delay),
+      le-leb 0 (r .step .blocking) (omega arith), le-leb (r .step .blocking) 1000000 (s .blocking),
+      le-leb 0 (r .step .priority) (omega arith), le-leb (r .step .priority) 255 (s .priority)
+    )

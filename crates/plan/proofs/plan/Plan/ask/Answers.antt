@@ -12,10 +12,10 @@ returns-in-Break-row g c =
     let done = ask-refused (g .R·NodeRule .answer (p .rule)) (contents (p .table)) (c .args .id) (c .args .step) (c .in-Break-row .field-0 .0) (c .in-Break-row .ensures tt .value) in
     rw (e .1, e .2) (record { value = done .value; run = done .run })
 
-pub returns-then-not-self : need.returns-then-not-self
-returns-then-not-self g c =
+pub returns-then-is-none : need.returns-then-is-none
+returns-then-is-none g c =
     let p = c .args .self .now in
-    let done = ask-unsolved (g .R·NodeRule .answer (p .rule)) (contents (p .table)) (c .args .id) (c .args .step) (c .in-Continue-row .row) (c .in-Continue-row .ensures tt .value) (c .if-not-self .taken) in
+    let done = ask-unsolved (g .R·NodeRule .answer (p .rule)) (contents (p .table)) (c .args .id) (c .args .step) (c .in-Continue-row .row) (c .in-Continue-row .ensures tt .value) (c .if-is-none .ensures tt) in
     record { value = done .value; run = done .run }
 
 pub returns : need.returns
@@ -24,6 +24,6 @@ returns g c =
     let t = p .table in
     let row = c .in-Continue-row .row in
     let done =
-    ask-told (g .R·NodeRule .answer (p .rule)) (contents t) (c .args .id) (c .args .step) row (c .jitter-jitter .result) _ (c .in-Continue-row .ensures tt .value) (c .if-not-self .left)
+    ask-told (g .R·NodeRule .answer (p .rule)) (contents t) (c .args .id) (c .args .step) row (c .jitter-jitter .result) _ (c .in-Continue-row .ensures tt .value) (c .if-is-none .ensures tt)
     (c .jitter-jitter .ensures) (sym (getD-take (t .«row_count») (t .responses) row 0 (c .in-Continue-row .ensures tt .inside))) in
     record { value = done .value; run = done .run }

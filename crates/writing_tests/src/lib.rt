@@ -1,0 +1,3 @@
+// What a buffer holds after writes, on examples.
+#[cfg(test)]
+mod writes;
