@@ -22,6 +22,8 @@ pub enum Refusal {
     CostOutOfRange,
     // changed or refused since the last accepted solve, or never solved
     NotSolved,
+    // the buffer is shorter than what is to be written
+    BufferShort,
     // no assignment carries the chains
     NothingCarries { rounds: u32 },
 }

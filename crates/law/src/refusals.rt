@@ -30,6 +30,7 @@ impl Refusal {
             Refusal::CostOutOfRange => 8,
             Refusal::NotSolved => 9,
             Refusal::NothingCarries { .. } => 10,
+            Refusal::BufferShort => 20,
         }
     }
 }

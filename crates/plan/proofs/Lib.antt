@@ -3,6 +3,7 @@ pub mod Adding
 pub mod Asking
 pub mod Closing
 pub mod Dropping
+pub mod Listed
 pub mod Memory
 pub mod Places
 pub mod Recosting

@@ -6,6 +6,7 @@ mod calls;
 mod find;
 mod keep;
 mod leave;
+mod listing;
 mod open;
 mod perform;
 mod plan;

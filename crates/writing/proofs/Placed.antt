@@ -3,14 +3,14 @@ use mathlib.Core.Path.{_≡_, refl, sym, _∙_, ap}
 use mathlib.Core.Logic.{inl, inr}
 use mathlib.Core.List.{List, [], _∷_, _++_}
 use Prim.Native.Nat.{ℕ, _+_, _-_, _/_, _%_, _^_, _≤_, _<_}
-use native.Mathlib.Nat.{add-assoc, zero-add}
+use native.Mathlib.Nat.{add-assoc, add-zero, zero-add}
 use native.Mathlib.Numerals.{add-one}
 use native.Mathlib.Omega.{arith}
 use lib.ListN.{length, set, take, drop}
 use Rattle.std.specs.Written.{decimal}
 use Rattle.std.specs.declared.option.Option.the-variants.{Some, None}
 use Rattle.std.proofs.shelf.Decimals.{decimal-digit, decimal-step}
-use Rattle.std.proofs.shelf.Lists.{append-assoc, length-append, length-take-le, length-drop, take-at, drop-at, drop-drop, set-split}
+use Rattle.std.proofs.shelf.Lists.{append-assoc, length-append, length-take-le, length-drop, take-at, drop-at, drop-drop, set-split, take-append-drop}
 use Rattle.std.proofs.shelf.Tests.{le-leb, lt-leb, cond-true, cond-false, cases-lt}
 use Rattle.writing.specs.Writing.{put-at, has-room, written, after-write}
 
@@ -116,3 +116,7 @@ put-last b at n large fits room =
     put-one (put-at b at front) (at + length front) (48 + n % 10) (omega arith)
     ∙ put-put b at front ((48 + n % 10) ∷ []) (omega arith)
     ∙ ap (put-at b at) (sym (decimal-step n large fits))
+
+-- no bytes leave the buffer as it is
+pub put-none : (b : List ℕ) (at : ℕ) → put-at b at [] ≡ b
+put-none b at = rw (add-zero at) (take-append-drop at b)
