@@ -27,8 +27,13 @@ closing-next {A} whole at gap k xs d low high c =
     let there : getD (drop (at + gap) whole) (k - at) d ≡ getD whole (k + gap) d = getD-drop (at + gap) whole (k - at) d ∙ ap (λ i. getD whole i d) n in
     record {
       front = rw (
-        take-more-set xs k (getD xs (k + gap) d) (omega arith), c .front, s, take-more (drop (at + gap) whole) (k - at) d (omega arith), there, ← read,
-        append-assoc (take at whole) (take (k - at) (drop (at + gap) whole)) (getD xs (k + gap) d ∷ [])
+        take-more-set xs k (getD xs (k + gap) d) (omega arith),
+        c .front,
+        s,
+        take-more (drop (at + gap) whole) (k - at) d (omega arith),
+        there,
+        ← read,
+        append-assoc (take at whole) (take (k - at) (drop (at + gap) whole)) (getD xs (k + gap) d ∷ []),
       );
       back = drop-set-lt (k + 1) xs k (getD xs (k + gap) d) (omega arith) ∙ sym (drop-drop 1 k xs) ∙ ap (drop 1) (c .back) ∙ drop-drop 1 k whole;
       same-length = simp length-set same;

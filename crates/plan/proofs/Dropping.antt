@@ -75,9 +75,13 @@ without-is id (e ∷ es) rows h t =
         ≡ cond b cs (record { chain = e .fields; rows = take (e .steps) rows } ∷ without id cs)
     by true l t rec = rw (l, zero-add (e .steps))
     by false l t rec =
-        rw (l, closed-suc e (chain-number cs id) es, closed-add (e .steps) (first-row cs id) (steps-of cs id) rows (omega arith),
+        rw (
+          l,
+          closed-suc e (chain-number cs id) es,
+          closed-add (e .steps) (first-row cs id) (steps-of cs id) rows (omega arith),
           take-all-front (e .steps) (take (e .steps) rows) (closed (first-row cs id) (steps-of cs id) (drop (e .steps) rows)) l,
-          drop-at (take (e .steps) rows) (closed (first-row cs id) (steps-of cs id) (drop (e .steps) rows)) (e .steps) l)
+          drop-at (take (e .steps) rows) (closed (first-row cs id) (steps-of cs id) (drop (e .steps) rows)) (e .steps) l,
+        )
         (ap (λ rest. record { chain = e .fields; rows = take (e .steps) rows } ∷ rest) (rec t))
 
 -- ## Where the chain that goes out stands

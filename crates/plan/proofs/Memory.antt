@@ -89,7 +89,7 @@ span-after id entry first (e ∷ es) rows h =
         span-from id (entry + 1) (first + e .steps) es ≡ behind (entry + 1) (first + e .steps) cs id →
         cond b (Some (record { entry = entry; first = first; steps = e .steps })) (span-from id (entry + 1) (first + e .steps) es) ≡
         cond (b || holds cs id)
-            (Some (record { entry = entry + cond b 0 (1 + chain-number cs id); first = first + cond b 0 (length (take (e .steps) rows) + first-row cs id); steps = cond b (length (take (e .steps) rows)) (steps-of cs id) })) None
+        (Some (record { entry = entry + cond b 0 (1 + chain-number cs id); first = first + cond b 0 (length (take (e .steps) rows) + first-row cs id); steps = cond b (length (take (e .steps) rows)) (steps-of cs id) })) None
     by true l w = rw (l, add-zero first, add-zero entry)
     by false l w =
         rw (l, ← add-assoc first (e .steps) (first-row (chains-from es (drop (e .steps) rows)) id), ← add-assoc entry 1 (chain-number (chains-from es (drop (e .steps) rows)) id)) w

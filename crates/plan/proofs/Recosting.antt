@@ -74,13 +74,23 @@ recosted-is id k cost (e ∷ es) rows h n =
     by true l t high rec =
         let low = n .low in
         let inside : k - 1 < e .steps = omega arith in
-        rw (zero-add (k - 1), take-set-lt (e .steps) rows (k - 1) (costing cost (row rows (k - 1))) inside, drop-set-lt (e .steps) rows (k - 1) (costing cost (row rows (k - 1))) inside,
-          with-cost-set (k - 1) cost (take (e .steps) rows) (omega arith), getD-take (e .steps) rows (k - 1) no-row inside)
+        rw (
+          zero-add (k - 1),
+          take-set-lt (e .steps) rows (k - 1) (costing cost (row rows (k - 1))) inside,
+          drop-set-lt (e .steps) rows (k - 1) (costing cost (row rows (k - 1))) inside,
+          with-cost-set (k - 1) cost (take (e .steps) rows) (omega arith),
+          getD-take (e .steps) rows (k - 1) no-row inside,
+        )
     by false l t high rec =
         let p = place-of cs id k in
         let at : (e .steps + first-row cs id) + (k - 1) ≡ e .steps + p = omega arith in
-        rw (l, at, take-set-le (e .steps) rows (e .steps + p) (costing cost (row rows (e .steps + p))) (omega arith), drop-set-add (e .steps) rows p (costing cost (row rows (e .steps + p))),
-          ← getD-drop (e .steps) rows p no-row)
+        rw (
+          l,
+          at,
+          take-set-le (e .steps) rows (e .steps + p) (costing cost (row rows (e .steps + p))) (omega arith),
+          drop-set-add (e .steps) rows p (costing cost (row rows (e .steps + p))),
+          ← getD-drop (e .steps) rows p no-row,
+        )
         (ap (λ (rest : List Held). record { chain = e .fields; rows = take (e .steps) rows } ∷ rest) (rec t high))
 
 -- ## What a plan holds after a recost

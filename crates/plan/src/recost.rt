@@ -35,7 +35,13 @@ impl<R: NodeRule> Plan<R> {
         let old = self.table.rows[row];
         let fields = StepFields { cost, ..old.step };
         let period = old.period;
-        overwrite(&mut self.table.rows[row], Row { period, step: fields });
+        overwrite(
+            &mut self.table.rows[row],
+            Row {
+                period,
+                step: fields,
+            },
+        );
         self.table.forget();
         Ok(())
     }

@@ -84,11 +84,18 @@ pub row-fits-from : (r : Row) → RowInRange r → row-fits r ≡ true
 row-fits-from r i =
     let s = i .step in
     rw (
-      le-leb 1 (r .period) (i .period .0), le-leb (r .period) 1000000 (i .period .1),
-      le-leb 1 (r .step .node) (s .node .0), le-leb (r .step .node) 8 (s .node .1),
-      le-leb 1 (r .step .cost) (s .cost .0), le-leb (r .step .cost) 1000000 (s .cost .1),
-      le-leb 1 (r .step .local .ticks) (s .local .0), le-leb (r .step .local .ticks) 1000000 (s .local .1),
-      le-leb 0 (r .step .delay) (omega arith), le-leb (r .step .delay) 1000000 (s .delay),
-      le-leb 0 (r .step .blocking) (omega arith), le-leb (r .step .blocking) 1000000 (s .blocking),
-      le-leb 0 (r .step .priority) (omega arith), le-leb (r .step .priority) 255 (s .priority)
+      le-leb 1 (r .period) (i .period .0),
+      le-leb (r .period) 1000000 (i .period .1),
+      le-leb 1 (r .step .node) (s .node .0),
+      le-leb (r .step .node) 8 (s .node .1),
+      le-leb 1 (r .step .cost) (s .cost .0),
+      le-leb (r .step .cost) 1000000 (s .cost .1),
+      le-leb 1 (r .step .local .ticks) (s .local .0),
+      le-leb (r .step .local .ticks) 1000000 (s .local .1),
+      le-leb 0 (r .step .delay) (omega arith),
+      le-leb (r .step .delay) 1000000 (s .delay),
+      le-leb 0 (r .step .blocking) (omega arith),
+      le-leb (r .step .blocking) 1000000 (s .blocking),
+      le-leb 0 (r .step .priority) (omega arith),
+      le-leb (r .step .priority) 255 (s .priority),
     )

@@ -37,7 +37,7 @@ pub fn put_bytes(buffer: &mut [u8], at: usize, bytes: &[u8]) -> Option<usize>
     ensures after { λ _. ⌜ now (buffer .exit) ≡ after-write (now (buffer .entry)) at (now (bytes .entry)) ⌝ }
 {
     let end = place_behind(buffer.len(), at, bytes.len())?;
-    buffer[at..end].copy_from_slice(bytes);
+    copy_at(buffer, at, bytes);
     Some(end)
 }
 
@@ -112,7 +112,9 @@ fn fields_len(fields: &[u32]) -> usize
 pub fn line_len(word: &[u8], fields: &[u32]) -> usize
     ensures { λ r. ⌜ r ≡ min (length (line-bytes (now (word .entry)) (now (fields .entry)))) (2 ^ 64 - 1) ⌝ }
 {
-    word.len().saturating_add(fields_len(fields)).saturating_add(1)
+    word.len()
+        .saturating_add(fields_len(fields))
+        .saturating_add(1)
 }
 
 // Writes a line from `at` on: a word, the numbers behind it, each behind a comma, and a line feed; and answers the place behind it.

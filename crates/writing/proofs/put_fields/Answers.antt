@@ -33,10 +33,9 @@ loop-field-again c =
     let part = length-part ns k in
     let inside : c .args .at ≤ length b = omega (arith, c .pre) in
     let end = c .loop-field .inv .0 in
-    let put = put-put b (c .args .at) (fields-bytes (take k ns)) (44 ∷ decimal (getD ns k 0)) inside in
-    (
+    let put = put-put b (c .args .at) (fields-bytes (take k ns)) (44 ∷ decimal (getD ns k 0)) inside in (
       omega (arith, c .put-field-end .ensures .value),
-      c .put-field-end .ensures .after ∙ rw (c .loop-field .inv .1, end) put ∙ ap (put-at b (c .args .at)) (sym (fields-more ns k (c .loop-field-test .taken)))
+      c .put-field-end .ensures .after ∙ rw (c .loop-field .inv .1, end) put ∙ ap (put-at b (c .args .at)) (sym (fields-more ns k (c .loop-field-test .taken))),
     )
 
 pub returns : need.returns

@@ -36,10 +36,9 @@ loop-row-again g c =
     let line = ap (line-bytes (codes "step")) (c .row-line .ensures) in
     let size = ap length line in
     let inside : at ≤ length b = omega (arith, c .pre) in
-    let put = put-put b at (rows-bytes s k) (row-line (chains-of t) (responses-of t) k) inside in
-    (
+    let put = put-put b at (rows-bytes s k) (row-line (chains-of t) (responses-of t) k) inside in (
       omega (arith, c .write-line-end .ensures .value, c .loop-row .inv .0),
-      c .write-line-end .ensures .after ∙ rw (line, c .loop-row .inv .1, c .loop-row .inv .0) put ∙ ap (put-at b at) (sym (rows-more s k))
+      c .write-line-end .ensures .after ∙ rw (line, c .loop-row .inv .1, c .loop-row .inv .0) put ∙ ap (put-at b at) (sym (rows-more s k)),
     )
 
 pub returns : need.returns
