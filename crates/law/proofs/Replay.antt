@@ -1,9 +1,9 @@
 -- Calls made one after another: one call more.
 use mathlib.Core.Path.{_≡_, refl, sym, _∙_, ap}
 use mathlib.Core.List.{List, [], _∷_, _++_}
-use Prim.Native.Nat.{ℕ, suc, _+_, _≤_, _<_}
+use Prim.Native.Nat.{ℕ, suc, _+_, _<_}
 use native.Mathlib.Omega.{arith}
-use lib.ListN.{length, set, take, drop, length-set, length-append}
+use lib.ListN.{length, set, take, drop, length-set}
 use Rattle.std.proofs.shelf.Lists.{take-more-set, drop-set-lt, drop-drop, length-take-le}
 use Rattle.rules.specs.Rules.{Meaning}
 use Rattle.law.specs.declared.answers.Answer.{Answer}

@@ -13,7 +13,7 @@ use Rattle.std.proofs.shelf.Tests.{leb-true, le-leb}
 use Rattle.records.specs.declared.fields.Row.{Row}
 use Rattle.records.specs.declared.fields.StepFields.{StepFields}
 use Rattle.records.specs.declared.record.Chain.{Chain}
-use Rattle.records.specs.Ranges.{within, bad-step-field, step-fits, row-fits}
+use Rattle.records.specs.Ranges.{within, bad-step-field}
 use Rattle.records.proofs.InRange.{within-true, chain-in-range, row-in-range, row-fits-from}
 use Rattle.rules.specs.Rules.{Meaning, Laws}
 use Rattle.rules.proofs.Lists.{Each, each-append, each-front, under-zeros}
@@ -26,7 +26,9 @@ use Rattle.law.specs.Refusals.{forgets}
 use Rattle.law.specs.Runs.{Call, Run, row-of, holding, without, costing, with-cost, recosted-chain, recosted, held, holds, steps-of, first-bad, need, need-fields, add-answer, drop-answer, at-step, recost-answer, told, standing, current, Start, Counted, Solves, Tells, Right, Lawful}
 use Rattle.law.specs.Runs.Call.{add, drop, recost, solve, ask}
 use Rattle.law.specs.Runs.Solves.{finds, finds-none}
-use Rattle.law.proofs.Core.{least-same, Fits, Fine, Ready, Ends, ready-zeros, ready-least, ready-push, least-round, rounds-end, rounds-bound, rounds-fewest, rounds-same, rounds-exist}
+use Rattle.law.proofs.Chains.{Fits, Fine}
+use Rattle.law.proofs.MoreChains.{ready-push}
+use Rattle.law.proofs.Rounds.{least-same, Ready, Ends, ready-zeros, ready-least, rounds-end, rounds-bound, rounds-fewest, rounds-same, rounds-exist}
 
 -- ## Tests
 

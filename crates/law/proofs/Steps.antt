@@ -1,6 +1,6 @@
 -- Each call's step of the law over runs.
 use mathlib.Core.Path.{_≡_, refl, sym, _∙_, ap}
-use mathlib.Core.Bool.{Bool, true, false, cond, not, _&&_, true≢false, false≢true}
+use mathlib.Core.Bool.{Bool, true, false, cond, false≢true}
 use mathlib.Core.List.{List, [], _∷_, _++_}
 use mathlib.Core.Logic.{_⊎_, inl, inr}
 use Prim.Native.Nat.{ℕ, zero, suc, _+_, _≤_, _<_}
@@ -12,22 +12,22 @@ use lib.Seq.{take-suc, take-all}
 use Rattle.std.specs.declared.option.Option.{Option}
 use Rattle.std.specs.declared.option.Option.the-variants.{Some, None}
 use Rattle.std.proofs.shelf.Lists.{getD-append-left, getD-push}
-use Rattle.std.proofs.shelf.Tests.{leb-true, leb-false, le-leb, lt-leb, eqb-true, eq-eqb, cases-eq}
+use Rattle.std.proofs.shelf.Tests.{leb-true, le-leb, lt-leb, eqb-true, eq-eqb, cases-eq}
 use Rattle.records.specs.declared.fields.StepFields.{StepFields}
 use Rattle.records.specs.declared.record.Chain.{Chain}
-use Rattle.rules.specs.Rules.{Meaning, Laws, Under}
-use Rattle.rules.proofs.Lists.{Each, under-from, under-at, under-length}
+use Rattle.rules.specs.Rules.{Meaning, Laws}
+use Rattle.rules.proofs.Lists.{Each, under-from, under-at}
 use Rattle.law.specs.declared.answers.Answer.{Answer}
 use Rattle.law.specs.declared.answers.Answer.the-variants.{Done, Refused}
 use Rattle.law.specs.declared.answers.Refusal.{Refusal}
-use Rattle.law.specs.Assignments.{Held, rows-of, deadlines-of, jitters-of, Round, Rounds, total}
+use Rattle.law.specs.Assignments.{Held, rows-of, deadlines-of, jitters-of, Round, Rounds}
 use Rattle.law.specs.Refusals.{forgets}
-use Rattle.law.specs.Runs.{Call, Run, held, add-answer, drop-answer, recost-answer, at-step, told, standing, current, Start, Solves, Tells, Lawful}
+use Rattle.law.specs.Runs.{Call, Run, held, add-answer, drop-answer, recost-answer, Start, Solves, Tells, Lawful}
 use Rattle.law.specs.Runs.Call.{add, drop, recost, solve, ask}
-use Rattle.law.specs.Runs.Solves.{finds, finds-none}
-use Rattle.law.specs.State.{Contents, new-plan, added, dropped, recosts, kept-within, behind, all-of, row-response, round, same, Outcome, one-more, rounds-from, solving, solve-answer, solved-with, ask-answer, Leads, Keeps}
+use Rattle.law.specs.State.{Contents, new-plan, added, dropped, recosts, kept-within, behind, all-of, row-response, round, same, rounds-from, solving, solve-answer, solved-with, ask-answer, Leads, Keeps}
 use Rattle.law.specs.Determined.{Determined}
-use Rattle.law.proofs.Core.{Fine, Ends, length-deadlines}
+use Rattle.law.proofs.Chains.{length-deadlines}
+use Rattle.law.proofs.Rounds.{Ends}
 use Rattle.law.proofs.RunLaw.{Kind, kind, fine-held, counted-exists, counted-ends, start-same, verdict, verdict-solves, current-stands, answered, right-same, add-refusal-mild, drop-refusal-mild, recost-refusal-mild}
 use Rattle.law.proofs.RunLaw.Kind.{turned-down, asked}
 

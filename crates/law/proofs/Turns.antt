@@ -1,15 +1,14 @@
 -- The turns of a solve: rounds made so far, and those still to come.
-use mathlib.Core.Path.{_≡_, refl, sym, _∙_, ap}
-use mathlib.Core.Bool.{Bool, true, false, cond}
+use mathlib.Core.Path.{_≡_, sym, _∙_}
+use mathlib.Core.Bool.{true, false}
 use mathlib.Core.List.{List}
-use Prim.Native.Nat.{ℕ, zero, suc, _+_, _-_, _≤_, _<_}
+use Prim.Native.Nat.{ℕ, suc, _+_, _-_, _≤_, _<_}
 use native.Mathlib.Nat.{add-assoc, zero-add, add-zero}
 use native.Mathlib.Omega.{arith}
-use Rattle.std.specs.declared.option.Option.{Option}
 use Rattle.std.specs.declared.option.Option.the-variants.{Some, None}
 use Rattle.rules.specs.Rules.{Meaning}
 use Rattle.law.specs.Assignments.{Held}
-use Rattle.law.specs.State.{round, same, Outcome, one-more, rounds-from}
+use Rattle.law.specs.State.{round, same, Outcome, rounds-from}
 
 -- an outcome after some rounds made before
 abbrev pub after : ℕ → Outcome → Outcome

@@ -1,8 +1,8 @@
 -- What a plan holds after an add, and the add's step of the law over runs.
-use mathlib.Core.Path.{_≡_, refl, sym, _∙_, ap}
-use mathlib.Core.Bool.{Bool, true, false}
+use mathlib.Core.Path.{_≡_, sym, _∙_}
+use mathlib.Core.Bool.{Bool, true}
 use mathlib.Core.List.{List, [], _∷_, _++_, map}
-use Prim.Native.Nat.{ℕ, _+_, _≤_, _<_}
+use Prim.Native.Nat.{_+_, _≤_, _<_}
 use native.Mathlib.Omega.{arith}
 use lib.ListN.{length, replicate, length-map}
 use lib.Seq.{length-take-le}
@@ -18,15 +18,15 @@ use Rattle.law.specs.declared.answers.Answer.{Answer}
 use Rattle.law.specs.declared.answers.Answer.the-variants.{Done, Refused}
 use Rattle.law.specs.declared.answers.Refusal.{Refusal}
 use Rattle.law.specs.declared.answers.Refusal.the-variants.{Field}
-use Rattle.law.specs.Assignments.{Held, rows-of}
-use Rattle.law.specs.Runs.{row-of, holding, first-bad, room-answer, add-answer}
+use Rattle.law.specs.Assignments.{Held}
+use Rattle.law.specs.Runs.{row-of, first-bad, room-answer, add-answer}
 use Rattle.law.specs.Runs.Call.{add}
 use Rattle.law.specs.State.{Contents, added, Keeps}
-use Rattle.law.proofs.Core.{Fits}
-use Rattle.law.proofs.RunLaw.{AddDone, add-done, rows-fit}
+use Rattle.law.proofs.Chains.{Fits}
+use Rattle.law.proofs.RunLaw.{add-done, rows-fit}
 use Rattle.law.proofs.Steps.{add-keeps, add-refused-keeps}
 use Rattle.plan.specs.declared.table.Table.{Table}
-use Rattle.plan.specs.Contents.{entries-of, table-rows, responses-of, chains-of, contents, steps-in, entry-fits, response-fits, responses-fit, Whole, Appended}
+use Rattle.plan.specs.Contents.{entries-of, table-rows, responses-of, chains-of, contents, steps-in, entry-fits, response-fits, responses-fit, Appended}
 use Rattle.plan.proofs.Memory.{Room, length-table-rows, length-rows-held, length-chains, chains-push, steps-push}
 use Rattle.plan.proofs.Solving.{zeros-pass}
 

@@ -13,17 +13,15 @@ use Rattle.std.specs.Options.{isSome}
 use Rattle.std.proofs.shelf.Lists.{take-more, take-more-set, replicate-more, append-assoc, append-nil, map-append, at-drop-more}
 use Rattle.std.proofs.shelf.Tests.{le-leb, lt-leb}
 use Rattle.records.specs.declared.fields.ChainFields.{ChainFields}
-use Rattle.records.specs.declared.fields.Row.{Row}
 use Rattle.records.specs.declared.fields.StepFields.{StepFields}
 use Rattle.records.specs.Ranges.{bad-step-field}
 use Rattle.law.specs.declared.answers.Answer.the-variants.{Done, Refused}
 use Rattle.law.specs.declared.answers.Refusal.the-variants.{StepsFull, IdHeld}
 use Rattle.law.specs.Assignments.{Held, rows-of}
 use Rattle.law.specs.Runs.{row-of, holds, first-row, steps-of, first-bad, room-answer}
-use Rattle.plan.specs.declared.table.Entry.{Entry}
 use Rattle.plan.specs.declared.table.Span.{Span}
 use Rattle.plan.specs.declared.table.Table.{Table}
-use Rattle.plan.specs.Contents.{entries-of, table-rows, responses-of, chain-number, span-of, Whole, RowsAppended, Appended}
+use Rattle.plan.specs.Contents.{table-rows, responses-of, chain-number, span-of, Whole, RowsAppended, Appended}
 
 -- where the loop that writes the rows stands: k steps are written behind the rows of `t`
 pub record Writing (t : Table) (period : ℕ) (steps : List StepFields) (k : ℕ) (s : Table) : Type 0 where

@@ -25,7 +25,7 @@ use Rattle.law.proofs.Steps.{drop-keeps, drop-refused-keeps}
 use Rattle.plan.specs.declared.table.Entry.{Entry}
 use Rattle.plan.specs.declared.table.Span.{Span}
 use Rattle.plan.specs.declared.table.Table.{Table}
-use Rattle.plan.specs.Contents.{entries-of, table-rows, in-use, chains-from, chains-of, contents, steps-in, entry-fits, chain-number, closed, with-responses, Whole, RowsClosed, EntriesClosed, Removed}
+use Rattle.plan.specs.Contents.{entries-of, table-rows, in-use, chains-from, chains-of, contents, steps-in, entry-fits, chain-number, closed, with-responses, RowsClosed, EntriesClosed, Removed}
 use Rattle.plan.proofs.Added.{passes-append, Sound}
 use Rattle.plan.proofs.Asking.{Spans}
 use Rattle.plan.proofs.Memory.{Room, length-table-rows, length-rows-held}

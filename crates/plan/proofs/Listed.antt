@@ -1,20 +1,18 @@
 -- The lines of a listing, one behind the other.
-use mathlib.Core.Path.{_≡_, refl, sym, _∙_, ap}
+use mathlib.Core.Path.{_≡_, refl, _∙_, ap}
 use mathlib.Core.List.{List, [], _∷_, _++_}
-use Prim.Native.Nat.{ℕ, zero, suc, _+_, _-_, _≤_, _<_}
+use Prim.Native.Nat.{ℕ, zero, suc, _+_, _-_, _≤_}
 use native.Mathlib.Numerals.{add-one}
 use native.Mathlib.Omega.{arith}
 use lib.Chars.{codes}
 use lib.ListN.{length, getD, length-append}
-use Rattle.std.specs.declared.option.Option.the-variants.{Some, None}
-use Rattle.std.proofs.shelf.Lists.{append-assoc}
-use Rattle.writing.specs.Writing.{line-bytes, put-at}
-use Rattle.writing.proofs.Placed.{put-put, length-put}
+use Rattle.std.specs.declared.option.Option.the-variants.{Some}
+use Rattle.writing.specs.Writing.{line-bytes}
 use Rattle.law.specs.Assignments.{Held, rows-of, jitters-of}
 use Rattle.law.specs.State.{Contents}
 use Rattle.plan.specs.declared.table.Place.{Place}
 use Rattle.plan.specs.Contents.{place-in}
-use Rattle.plan.specs.Listing.{fields-at, row-fields, row-line, joined, rows-bytes, listing-bytes}
+use Rattle.plan.specs.Listing.{fields-at, row-fields, row-line, rows-bytes, listing-bytes}
 
 pub fields-are : (cs : List Held) (xs : List ℕ) (k : ℕ) (p : Place) (jitter response : ℕ) → Some p ≡ place-in cs k → jitter ≡ getD (jitters-of cs xs) k 0 → response ≡ getD xs k 0 →
     p .chain .id ∷ (p .step + 1) ∷ jitter ∷ response ∷ [] ≡ row-fields cs xs k

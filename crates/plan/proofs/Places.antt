@@ -1,13 +1,12 @@
 -- The jitter and the deadline of a row, by the row's place in its chain.
 use mathlib.Core.Path.{_≡_, refl, sym, _∙_, ap}
-use mathlib.Core.Bool.{Bool, true, false, cond, _&&_, false≢true}
+use mathlib.Core.Bool.{Bool, true, false, cond}
 use mathlib.Core.List.{List, [], _∷_, _++_}
 use Prim.Native.Nat.{ℕ, zero, suc, _+_, _-_, _≤_, _<_}
 use native.Mathlib.Omega.{arith}
 use lib.Dec.{eqb, ltb}
 use lib.ListN.{length, getD, drop, replicate, length-append, length-replicate}
 use lib.Seq.{getD-drop}
-use Rattle.std.specs.declared.option.Option.{Option}
 use Rattle.std.specs.declared.option.Option.the-variants.{Some, None}
 use Rattle.std.proofs.shelf.Lists.{getD-append-left, getD-append-right, getD-replicate, length-drop}
 use Rattle.std.proofs.shelf.Tests.{ltb-true, ltb-false, eqb-false, ne-eqb}
@@ -16,7 +15,7 @@ use Rattle.records.specs.Ranges.{chain-fits}
 use Rattle.records.proofs.InRange.{and-true}
 use Rattle.rules.specs.Rules.{each-passes, row, no-row}
 use Rattle.law.specs.Assignments.{Held, rows-of, deadlines-of, jitters-in, jitters-of}
-use Rattle.law.proofs.Core.{length-jitters-in}
+use Rattle.law.proofs.Chains.{length-jitters-in}
 use Rattle.plan.specs.declared.table.Entry.{Entry}
 use Rattle.plan.specs.declared.table.Place.{Place}
 use Rattle.plan.specs.Contents.{entry-fits, place-in}

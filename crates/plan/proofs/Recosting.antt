@@ -4,10 +4,10 @@ use mathlib.Core.Bool.{Bool, true, false, cond, _||_, false≢true}
 use mathlib.Core.List.{List, [], _∷_}
 use mathlib.Core.Logic.{_⊎_, inl, inr}
 use Prim.Native.Nat.{ℕ, zero, suc, _+_, _-_, _≤_, _<_}
-use native.Mathlib.Nat.{add-assoc, zero-add}
+use native.Mathlib.Nat.{zero-add}
 use native.Mathlib.Omega.{arith}
-use lib.Dec.{eqb, leb}
-use lib.ListN.{length, getD, set, take, drop, replicate, length-set}
+use lib.Dec.{eqb}
+use lib.ListN.{length, set, take, drop, replicate, length-set}
 use lib.Seq.{take-set-lt, take-set-le, getD-take, getD-drop}
 use Rattle.std.specs.declared.option.Option.the-variants.{None}
 use Rattle.std.specs.declared.result.Result.{Result}
@@ -18,16 +18,16 @@ use Rattle.records.specs.declared.fields.Row.{Row}
 use Rattle.records.specs.Ranges.{within, row-fits}
 use Rattle.records.proofs.InRange.{within-true, and-true}
 use Rattle.rules.specs.Rules.{each-passes, Meaning, row, no-row}
-use Rattle.rules.proofs.Lists.{Each, passes-each, each-passes-from, each-at}
+use Rattle.rules.proofs.Lists.{passes-each, each-at}
 use Rattle.law.specs.declared.answers.Answer.{Answer}
 use Rattle.law.specs.declared.answers.Answer.the-variants.{Done, Refused}
 use Rattle.law.specs.declared.answers.Refusal.{Refusal}
 use Rattle.law.specs.declared.answers.Refusal.the-variants.{IdUnknown, NoSuchStep, CostOutOfRange}
-use Rattle.law.specs.Assignments.{Held, rows-of, zeros}
+use Rattle.law.specs.Assignments.{Held, zeros}
 use Rattle.law.specs.Runs.{costing, with-cost, recosted-chain, recosted, holds, first-row, steps-of, place-of, need, at-step, recost-answer}
 use Rattle.law.specs.Runs.Call.{recost}
 use Rattle.law.specs.State.{Contents, recosts, Keeps}
-use Rattle.law.proofs.Core.{Fits}
+use Rattle.law.proofs.Chains.{Fits}
 use Rattle.law.proofs.RunLaw.{costing-fits}
 use Rattle.law.proofs.Steps.{recost-keeps, recost-refused-keeps}
 use Rattle.plan.specs.declared.table.Entry.{Entry}

@@ -1,19 +1,18 @@
 -- What a solve leaves in a plan, and its step of the law over runs.
-use mathlib.Core.Path.{_≡_, refl, sym, _∙_, ap}
-use mathlib.Core.Bool.{Bool, true, false}
+use mathlib.Core.Path.{_≡_, refl, sym}
+use mathlib.Core.Bool.{true}
 use mathlib.Core.List.{List}
 use Prim.Native.Nat.{ℕ, zero, suc, _≤_}
-use lib.ListN.{length, take, replicate}
-use Rattle.std.specs.declared.option.Option.{Option}
+use lib.ListN.{take, replicate}
 use Rattle.std.specs.declared.option.Option.the-variants.{Some, None}
 use Rattle.std.proofs.shelf.Lists.{take-replicate}
 use Rattle.rules.specs.Rules.{each-passes, Meaning, Laws}
 use Rattle.law.specs.declared.answers.Answer.{Answer}
 use Rattle.law.specs.declared.answers.Answer.the-variants.{Solved, Refused}
 use Rattle.law.specs.declared.answers.Refusal.the-variants.{NothingCarries}
-use Rattle.law.specs.Assignments.{rows-of, zeros}
+use Rattle.law.specs.Assignments.{zeros}
 use Rattle.law.specs.Runs.Call.{solve}
-use Rattle.law.specs.State.{Contents, Outcome, solving, solve-answer, solved-with, Keeps}
+use Rattle.law.specs.State.{Contents, solving, solve-answer, solved-with, Keeps}
 use Rattle.law.proofs.Steps.{solve-keeps}
 use Rattle.plan.specs.declared.table.Settled.{Settled}
 use Rattle.plan.specs.declared.table.Table.{Table}

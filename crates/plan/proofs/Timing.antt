@@ -1,23 +1,21 @@
 -- The jitters and responses of a plan's rows: what single reads of its memory come to.
 use mathlib.Core.Path.{_≡_, refl, sym, _∙_, ap, ap₂}
-use mathlib.Core.Bool.{Bool, true, false, cond}
+use mathlib.Core.Bool.{Bool, true, false}
 use mathlib.Core.List.{List, [], _∷_, _++_}
 use Prim.Native.Nat.{ℕ, zero, suc, _+_, _-_, _*_, _≤_, _<_}
 use native.Mathlib.Nat.{zero-add, add-assoc, zero-mul, suc-mul, mul-le-mul, le-refl}
 use native.Mathlib.Numerals.{add-one}
 use native.Mathlib.Omega.{arith}
-use lib.Dec.{eqb}
 use lib.ListN.{length, getD, set, take, drop, replicate}
 use lib.Seq.{getD-take, length-take-le}
-use Rattle.std.specs.declared.option.Option.{Option}
 use Rattle.std.specs.declared.option.Option.the-variants.{Some, None}
 use Rattle.std.proofs.shelf.Lists.{take-more, take-more-set, length-drop, at-drop-more}
 use Rattle.std.proofs.shelf.Tests.{leb-true, le-leb, eq-eqb, ne-eqb}
 use Rattle.records.specs.declared.fields.Row.{Row}
-use Rattle.records.specs.Ranges.{chain-fits, row-fits}
+use Rattle.records.specs.Ranges.{row-fits}
 use Rattle.records.proofs.InRange.{chain-in-range, row-in-range, and-true}
 use Rattle.rules.specs.Rules.{Meaning, each-passes, row, no-row}
-use Rattle.rules.proofs.Lists.{Each, passes-each, each-at}
+use Rattle.rules.proofs.Lists.{passes-each, each-at}
 use Rattle.law.specs.Assignments.{Held, rows-of, deadlines-of, jitters-of, total}
 use Rattle.law.specs.State.{all-of, row-response, round, same}
 use Rattle.law.proofs.Steps.{all-of-none, same-refl, not-same}
@@ -26,7 +24,7 @@ use Rattle.plan.specs.declared.table.Place.{Place}
 use Rattle.plan.specs.declared.table.Table.{Table}
 use Rattle.plan.specs.Contents.{entries-of, table-rows, chains-from, chains-of, steps-in, entry-fits, in-use, response-fits, responses-fit, place-in}
 use Rattle.plan.proofs.Memory.{Room, length-table-rows, rows-held, length-rows-held, no-entry, next-steps}
-use Rattle.plan.proofs.Places.{before, place-small, jitter-at}
+use Rattle.plan.proofs.Places.{before, jitter-at}
 
 module _ {t : Table} (room : Room t) (k : ℕ) (inside : k < t .«row_count») where
   -- a row that is read is one of the rows held

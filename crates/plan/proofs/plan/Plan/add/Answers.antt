@@ -1,4 +1,4 @@
-use mathlib.Core.Path.{_≡_, refl, sym}
+use mathlib.Core.Path.{_≡_, refl}
 use Rattle.std.proofs.shelf.Results.{err-from-errBy}
 use Rattle.law.specs.declared.answers.Answer.the-variants.{Done, Refused}
 use Rattle.law.specs.declared.answers.Refusal.the-variants.{Field}

@@ -1,5 +1,5 @@
 use native.Mathlib.Omega.{arith}
-use mathlib.Core.Path.{_≡_, sym, _∙_}
+use mathlib.Core.Path.{sym, _∙_}
 use Rattle.plan.specs.Contents.{entries-of, table-rows}
 use Rattle.plan.proofs.Memory.{room-enough, span-from, span-is, next-steps, span-hit, span-next, none-left}
 use Rattle.plan.proofs.plan.Plan.find.Needs as need

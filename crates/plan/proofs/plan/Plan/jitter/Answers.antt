@@ -1,5 +1,5 @@
 use native.Mathlib.Omega.{arith}
-use Prim.Native.Nat.{_≤_, _<_, _-_}
+use Prim.Native.Nat.{_<_, _-_}
 use mathlib.Core.Path.{_≡_, _∙_}
 use Rattle.records.proofs.InRange.{chain-in-range}
 use Rattle.rules.specs.Rules.{no-row}

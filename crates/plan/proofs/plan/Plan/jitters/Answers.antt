@@ -4,7 +4,7 @@ use mathlib.Core.Path.{_≡_, _∙_}
 use lib.ListN.{length, length-set}
 use lib.Seq.{take-all}
 use Rattle.law.specs.Assignments.{jitters-of}
-use Rattle.law.proofs.Core.{length-jitters}
+use Rattle.law.proofs.Chains.{length-jitters}
 use Rattle.plan.specs.Contents.{chains-of, in-use}
 use Rattle.plan.proofs.Memory.{Room, length-rows-held}
 use Rattle.plan.proofs.Timing.{filled-more}

@@ -1,8 +1,8 @@
 use Prim.Native.Nat.{_+_, _-_, _≤_}
-use mathlib.Core.Path.{_≡_, _∙_, ap}
+use mathlib.Core.Path.{_∙_, ap}
 use native.Mathlib.Omega.{arith}
 use Rattle.std.specs.declared.result.Result.the-variants.{Ok}
-use Rattle.law.specs.Runs.{steps-of, place-of}
+use Rattle.law.specs.Runs.{steps-of}
 use Rattle.plan.specs.Contents.{chains-of}
 use Rattle.plan.proofs.Asking.{place-inside, span-shows, named-ok}
 use Rattle.plan.proofs.Memory.{Room, length-rows-held}

@@ -1,6 +1,4 @@
 use native.Mathlib.Omega.{arith}
-use mathlib.Core.Path.{_≡_}
-use Prim.Native.Nat.{_+_}
 use Rattle.plan.specs.Contents.{entries-of, table-rows}
 use Rattle.plan.proofs.Memory.{Room, room-enough, none-left}
 use Rattle.plan.proofs.Timing.{deadlines-in, deadlines-total, sum-turn}

@@ -6,7 +6,7 @@ use lib.ListN.{length, getD, take}
 use Rattle.std.proofs.shelf.Lists.{take-more, map-append}
 use Rattle.rules.specs.Rules.{Meaning}
 use Rattle.law.specs.State.{call-answer, call-after, Keeps}
-use Rattle.law.proofs.Replay.{Made, made-none, made-more}
+use Rattle.law.proofs.Replay.{made-none, made-more}
 use Rattle.plan.specs.declared.calls.PlanCall.{PlanCall}
 use Rattle.plan.specs.Calls.{meant}
 use Rattle.plan.specs.Contents.{contents}

@@ -1,7 +1,7 @@
 use native.Mathlib.Omega.{arith}
-use mathlib.Core.Path.{_≡_, sym, _∙_}
+use mathlib.Core.Path.{_∙_}
 use Rattle.plan.specs.Contents.{entries-of, table-rows, steps-in}
-use Rattle.plan.proofs.Memory.{Room, room-enough, place-from, place-is, next-steps, place-hit, place-next, none-left}
+use Rattle.plan.proofs.Memory.{room-enough, place-is, next-steps, place-hit, place-next, none-left}
 use Rattle.plan.proofs.Places.{place-fits}
 use Rattle.plan.proofs.plan.Plan.place.Needs as need
 

@@ -1,9 +1,8 @@
-use Prim.Native.Nat.{_≤_, _<_}
+use Prim.Native.Nat.{_<_}
 use mathlib.Core.Path.{_≡_, _∙_}
 use native.Mathlib.Omega.{arith}
 use lib.ListN.{length, length-set}
 use Rattle.std.specs.declared.option.Option.the-variants.{Some, None}
-use Rattle.std.proofs.shelf.Results.{cases-at-some}
 use Rattle.law.specs.Assignments.{jitters-of}
 use Rattle.law.specs.State.{row-response}
 use Rattle.plan.specs.Contents.{chains-of, in-use}

@@ -1,5 +1,4 @@
 use mathlib.Core.Path.{refl}
-use Rattle.plan.specs.Contents.{contents}
 use Rattle.plan.proofs.Memory.{Room}
 use Rattle.plan.proofs.Solving.{zeros-fit, solve-kept, solve-forgot}
 use Rattle.plan.proofs.plan.Plan.solve.Needs as need

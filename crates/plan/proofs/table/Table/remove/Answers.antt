@@ -1,5 +1,3 @@
-use Prim.Native.Nat.{_≤_, _<_}
-use mathlib.Core.Path.{_≡_, refl, _∙_, ap}
 use native.Mathlib.Omega.{arith}
 use Rattle.plan.proofs.Dropping.{removed}
 use Rattle.plan.proofs.table.Table.remove.Needs as need
