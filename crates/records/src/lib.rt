@@ -1,7 +1,9 @@
 // Chain and step records, whose fields are in range for as long as they exist, and the plain fields that they are made of.
+mod chain;
 mod fields;
-mod makes;
+mod range;
 mod record;
+mod step;
 
 pub use fields::ChainFields;
 pub use fields::EndToEndDeadline;
