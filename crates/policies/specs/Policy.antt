@@ -66,3 +66,7 @@ worst p rows js i (Some l) = largest (response p rows js i) (p .starts (row rows
 -- what a rule answers: the worst-case response time of row i; over, if the call is not valid
 unfoldable pub answer : Policy → Meaning
 answer p rows js i = elim (valid rows js i) [ true ↦ worst p rows js i (busy rows js i) | false ↦ None ]
+
+-- the response of one start of row i; over, if the call is not valid
+abbrev pub start-answer : Policy → List Row → List ℕ → ℕ → ℕ → Option ℕ
+start-answer p rows js i q = cond (valid rows js i) (response p rows js i q) None

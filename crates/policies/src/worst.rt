@@ -1,9 +1,7 @@
 // The largest response over the starts of a busy period.
 ghost use mathlib.Core.Path.{_≡_};
-ghost use mathlib.Core.Bool.{true, false};
-ghost use Rattle.std.specs.declared.option.Option.the-variants.{Some, None};
-ghost use Rattle.rules.specs.Rules.{valid};
-ghost use Rattle.policies.specs.Policy.{response, worst, answer};
+ghost use Rattle.std.specs.declared.option.Option.the-variants.{Some};
+ghost use Rattle.policies.specs.Policy.{response, worst, answer, start-answer};
 use crate::call::ValidCall;
 use crate::checks::is_valid;
 use crate::completion::Completion;
@@ -73,8 +71,7 @@ pub fn start_response<P: SchedulingPolicy + Copy>(
     row: usize,
     start: u32,
 ) -> Option<u32>
-    ensures value { λ r. ⌜ (valid (now (rows .entry)) (now (jitters .entry)) row ≡ true → r ≡ response (P·SchedulingPolicy .shares) (now (rows .entry)) (now (jitters .entry)) row start) ⌝ }
-    ensures invalid { λ r. ⌜ (valid (now (rows .entry)) (now (jitters .entry)) row ≡ false → r ≡ None) ⌝ }
+    ensures { λ r. ⌜ r ≡ start-answer (P·SchedulingPolicy .shares) (now (rows .entry)) (now (jitters .entry)) row start ⌝ }
 {
     if is_valid(rows, jitters, row) {
         response_of(policy, ValidCall::new(rows, jitters, row), start)

@@ -1,0 +1,32 @@
+// The lines of a table's text, and what each is: a record of its kind, or the first fault.
+mod cursor;
+mod faults;
+mod kinds;
+mod line;
+mod numbers;
+mod parts;
+mod places;
+mod reading;
+mod text;
+mod texts;
+
+pub use faults::Fault;
+pub use faults::FaultDebug;
+pub use faults::FaultEq;
+pub use faults::FaultPartialEq;
+pub use faults::LineFault;
+pub use faults::LineFaultDebug;
+pub use faults::LineFaultEq;
+pub use faults::LineFaultFromRecordFault;
+pub use faults::LineFaultPartialEq;
+pub use faults::TableFault;
+pub use faults::TableFaultDebug;
+pub use faults::TableFaultEq;
+pub use faults::TableFaultPartialEq;
+pub use line::Line;
+pub use line::NodeLine;
+pub use numbers::number_in;
+pub use places::letter_in;
+pub use reading::read_line;
+pub use text::TextCursor;
+pub use texts::check_text;
