@@ -1,4 +1,6 @@
 // Analyses the table on standard input, or in the file that is named: writes its listing, or the line of its refusal and, to standard error, why.
+#![tactic(auto)]
+
 mod fields;
 mod input;
 mod sentences;

@@ -1,4 +1,6 @@
 // Worked cases of the written definitions, proved.
+#![tactic(auto)]
+
 ghost use Rattle.cases.specs.Cases.{WorkedCases};
 
 // Lists of calls on a new plan, with what the definitions answer to each.

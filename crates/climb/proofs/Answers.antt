@@ -1,5 +1,5 @@
 -- The order of answers.
-use Rattle.std.proofs.Common.{◌≡◌, ℕ, ◌≤◌, Some, None, Option, refl, arith}
+use Rattle.std.proofs.Common.{◌≡◌, ℕ, ◌≤◌, Some, None, Option, arith}
 use Rattle.climb.specs.Answers.{AtMost}
 use Rattle.climb.specs.Answers.AtMost.{over, within}
 

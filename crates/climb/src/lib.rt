@@ -1,4 +1,6 @@
 // The climb: from 1 up, a rising rule is applied to its own result until it gives back what it was given.
+#![tactic(auto)]
+
 ghost use Rattle.std.specs.Prelude.{◌≡◌, ℕ, ◌-◌, ◌^◌, min};
 ghost use Rattle.climb.specs.Climb.{Rises, LeastFixed, settled};
 
@@ -16,8 +18,8 @@ pub trait RisingRule {
 
 // The least number of at least 1 that the rule gives back, or over (`None`) where that would pass the limit.
 pub fn climb<R: RisingRule>(rule: &R, limit: u32) -> Option<u32>
-    ensures value { result ≡ settled (gives rule.now) limit }
-    ensures least { LeastFixed (gives rule.now) limit result }
+    ensures value { result ≡ settled (R.gives rule.now) limit }
+    ensures least { LeastFixed (R.gives rule.now) limit result }
 {
     let mut at: u32 = 1;
     loop {

@@ -1,4 +1,6 @@
 // The earliest_deadline rule: a node runs the pending job whose local deadline comes first.
+#![tactic(auto)]
+
 ghost use Rattle.std.specs.Prelude.{◌≡◌, ◌^◌, ◌<◌, ◌≤◌};
 ghost use Rattle.edf.specs.Edf.{due, by_deadline, earliest_deadline, due_if_periodic, CountsDue, DueTogether};
 ghost use Rattle.edf.specs.Laws.{deadline_sound, deadline_laws};

@@ -1,4 +1,6 @@
 // Analyses each of the example tables and compares the report with the bytes that are expected.
+#![tactic(auto)]
+
 use report::report;
 use std::fs;
 

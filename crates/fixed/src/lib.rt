@@ -1,4 +1,6 @@
 // The fixed_priority rule: a node runs the pending job of the largest priority.
+#![tactic(auto)]
+
 ghost use Rattle.std.specs.Prelude.{◌≡◌, ◌↔◌, ℕ, ◌*◌, ◌<◌};
 ghost use Rattle.fixed.specs.Fixed.{by_priority, fixed_priority};
 ghost use Rattle.fixed.specs.Laws.{priority_sound, fixed_laws};

@@ -1,4 +1,6 @@
 // What the calls of a plan answer, and the law over every run of them.
+#![tactic(auto)]
+
 mod answers;
 mod refusals;
 mod theorem;

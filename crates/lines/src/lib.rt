@@ -1,4 +1,6 @@
 // The lines of a table's text, and what each is: a record of its kind, or the first fault.
+#![tactic(auto)]
+
 mod cursor;
 mod faults;
 mod kinds;

@@ -1,4 +1,6 @@
 // The mixture of two node rules: a letter for each node says which of them answers for the node's rows.
+#![tactic(auto)]
+
 mod letters;
 mod mixture;
 

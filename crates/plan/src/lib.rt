@@ -1,4 +1,6 @@
 // The plan: chains of steps over any node rule, solved to the least response times that carry them.
+#![tactic(auto)]
+
 mod add;
 mod append;
 mod ask;

@@ -1,4 +1,6 @@
 // What both node rules share: calls that were checked, the busy period of a node, and the largest response over its starts.
+#![tactic(auto)]
+
 mod call;
 mod checks;
 mod completion;

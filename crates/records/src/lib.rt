@@ -1,4 +1,6 @@
 // Chain and step records, whose fields are in range for as long as they exist, and the plain fields that they are made of.
+#![tactic(auto)]
+
 mod chain;
 mod fields;
 mod range;

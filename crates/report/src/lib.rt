@@ -1,4 +1,6 @@
 // Text in, bytes out: the listing of a table's panel, or the line of a refusal.
+#![tactic(auto)]
+
 mod refusals;
 mod reports;
 mod verdicts;

@@ -1,4 +1,6 @@
 // What a node rule is: one fixed map from rows, jitters and a row number to a response time, with the laws that it shows.
+#![tactic(auto)]
+
 ghost use Rattle.std.specs.Prelude.{◌≡◌};
 ghost use Rattle.rules.specs.Rules.{Meaning, Laws};
 

@@ -1,4 +1,6 @@
 // The text of a table, read into a plan whose nodes go by earliest deadline or by fixed priority.
+#![tactic(auto)]
+
 mod begun;
 mod chains;
 mod draft;
