@@ -18,7 +18,7 @@ pub(crate) trait JobCount {
 
 // The sum over the tasks on the node of the task that is asked for; the largest u64 stands for anything that a u64 cannot hold.
 pub(crate) fn node_work<C: NodeCall, J: JobCount>(call: &C, counts: &J) -> u64
-    ensures { result ≡ min (work (rows call.now) (asked call.now) (λ k. jobs counts.now (slice_index_or (rows call.now) k no_row) (slice_index (jitters call.now) k) k)) (2 ^ 64 - 1) }
+    ensures { result ≡ min (work (C.rows call.now) (C.asked call.now) (λ k. J.jobs counts.now (slice_index_or (C.rows call.now) k no_row) (slice_index (C.jitters call.now) k) k)) (2 ^ 64 - 1) }
 {
     let node = call.asked_task().row.step.node;
     let mut sum: u64 = 0;

@@ -13,15 +13,15 @@ loop-index-preserved g c =
     let k = c.loop-index.index in
     let count : ℕ → ℕ = λ k. g.J.JobCount.jobs c.args.counts.now (get_or rows k no_row) (get_or (g.C.NodeCall.jitters call) k 0) k in
     let r = c.task-task.result.row in
-    let a = c.asked-task-node.result.row in
+    let a = c.asked_task-node.result.row in
     let f : ℕ → ℕ = λ k. share rows asked k (count k) in
     elim c.if-task-node.branch [
       | then-task-node w ↦
-          let e = share_here rows asked k (count k) r a c.task-task.ensures.row c.asked-task-node.ensures.row w.if-task-node.true in
+          let e = share_here rows asked k (count k) r a c.task-task.ensures.row c.asked_task-node.ensures.row w.if-task-node.true in
           let p : w.count.result * w.from-cost.result ≡ count k * r.step.cost = cc in
           sum_goes_on f k c.loop-index.sum c.if-task-node.sum (count k * r.step.cost) c.loop-index.invariant e (omega arith)
       | else-task-node w ↦
-          let e = share_elsewhere rows asked k (count k) r a c.task-task.ensures.row c.asked-task-node.ensures.row w.if-task-node.false in
+          let e = share_elsewhere rows asked k (count k) r a c.task-task.ensures.row c.asked_task-node.ensures.row w.if-task-node.false in
           sum_goes_on f k c.loop-index.sum c.if-task-node.sum 0 c.loop-index.invariant e (omega arith)
     ]
 
