@@ -211,7 +211,7 @@ module _ (answer : Meaning) (laws : Laws answer) where
       rw computed (by n end (verdict_solves answer laws h n end fine counted) (counted_ends answer laws fine counted))
     where
       by : (n : ℕ) (end : Option (List ℕ)) → Solves answer h (verdict n end) → Ends answer (held h) end → Leads answer ((solve, verdict n end) ∷ h) (solved_with s (record { rounds = n; responses = end }))
-      by n None v ends = record { lawful = (v, l.lawful); chains = l.chains; starts = rw l.chains Start.after_Nothing; stands = refl }
+      by n None v ends = record { lawful = (v, l.lawful); chains = l.chains; starts = rw l.chains Start.after_nothing; stands = refl }
       by n (Some xs) v ends = record { lawful = (v, l.lawful); chains = l.chains; starts = Start.after_solve ends; stands = refl }
 
 -- ## Ask
