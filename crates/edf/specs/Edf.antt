@@ -1,4 +1,4 @@
--- The earliest_deadline rule: a node runs the pending job whose local deadline comes first. Assumes nothing.
+-- The earliest-deadline rule: a node runs the pending job whose local deadline comes first. Assumes nothing.
 --
 -- For the row that is asked for, a, with period T, cost C, local deadline d, blocking B and release jitter J, and for each other
 -- row j of its node, with period Tj, cost Cj, local deadline dj and release jitter Jj. Times are whole ticks, counted from where
@@ -38,7 +38,7 @@ by_deadline =
       before = λ a A r J w. min (arrivals r J w) (due r J (A + a.step.local.ticks));
     }
 
--- the earliest_deadline rule: the worst-case response time of a row, over the starts of its busy period
+-- the earliest-deadline rule: the worst-case response time of a row, over the starts of its busy period
 unfoldable pub earliest_deadline : Meaning
 earliest_deadline = answer by_deadline
 

@@ -1,4 +1,4 @@
-// The earliest_deadline rule: a node runs the pending job whose local deadline comes first.
+// The earliest-deadline rule: a node runs the pending job whose local deadline comes first.
 #![tactic(auto)]
 
 ghost use Rattle.std.specs.Prelude.{◌≡◌, ◌^◌, ◌<◌, ◌≤◌};

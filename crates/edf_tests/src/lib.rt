@@ -1,4 +1,4 @@
-// The earliest_deadline rule and mixtures on examples, through the plan where chains are meant.
+// The earliest-deadline rule and mixtures on examples, through the plan where chains are meant.
 #![tactic(auto)]
 
 #[cfg(test)]

@@ -1,4 +1,4 @@
--- The fixed_priority rule: a node runs the pending job of the largest priority. Assumes nothing.
+-- The fixed-priority rule: a node runs the pending job of the largest priority. Assumes nothing.
 use Rattle.std.specs.Prelude.{cond, ◌+◌, ◌*◌, leb}
 use Rattle.rules.specs.Rules.{Meaning}
 use Rattle.policies.specs.Ranges.{ceil}
@@ -18,6 +18,6 @@ by_priority =
       before = λ a q r J w. cond (leb a.step.priority r.step.priority) (arrivals r J w) 0;
     }
 
--- the fixed_priority rule: the worst-case response time of a row, over the starts of its busy period
+-- the fixed-priority rule: the worst-case response time of a row, over the starts of its busy period
 unfoldable pub fixed_priority : Meaning
 fixed_priority = answer by_priority

@@ -1,4 +1,4 @@
-// The fixed_priority rule: a node runs the pending job of the largest priority.
+// The fixed-priority rule: a node runs the pending job of the largest priority.
 #![tactic(auto)]
 
 ghost use Rattle.std.specs.Prelude.{◌≡◌, ◌↔◌, ℕ, ◌*◌, ◌<◌};

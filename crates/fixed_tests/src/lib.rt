@@ -1,4 +1,4 @@
-// The fixed_priority rule on examples.
+// The fixed-priority rule on examples.
 #![tactic(auto)]
 
 #[cfg(test)]
