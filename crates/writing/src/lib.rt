@@ -1,4 +1,6 @@
 // Bytes and numbers into the caller's buffer, from a place on: all of them, or none.
+#![tactic(auto)]
+
 ghost use Rattle.std.specs.Prelude.{◌≡◌, ◌+◌, ◌-◌, ◌^◌, ◌≤◌, min, ◌∷◌, length, if◌then◌else◌, Some, None, decimal, nat_le};
 ghost use Rattle.writing.specs.Writing.{put_at, written, after_write, fields_bytes, line_bytes};
 
