@@ -3,8 +3,8 @@ use Rattle.std.proofs.lemmas.Fmt.{length-decimal-le_succ}
 use Rattle.writing.proofs.Placed.{length_digit, length_digits}
 use Rattle.writing.proofs.+number_len.Goals as goal
 
-pub overflow-add-result : goal.overflow-add-result
-overflow-add-result t c = let short = length-decimal-le_succ (c.args.n / 10) (omega arith) in omega arith
+pub overflow_add-result : goal.overflow_add-result
+overflow_add-result t c = let short = length-decimal-le_succ (c.args.n / 10) (omega arith) in omega arith
 
 pub returns-then-n-lt10 : goal.returns-then-n-lt10
 returns-then-n-lt10 t c = sym (length_digit c.args.n (omega arith))

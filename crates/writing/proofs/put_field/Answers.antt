@@ -1,4 +1,4 @@
-use Rattle.std.proofs.Common.{◌≡◌, ◌+◌, ◌<◌, ◌≤◌, [], ◌∷◌, length, decimal, sym, refl, ap, ◌∙◌, arith}
+use Rattle.std.proofs.Common.{◌<◌, ◌≤◌, [], ◌∷◌, length, decimal, ◌∙◌, arith}
 use Rattle.writing.proofs.Placed.{put_one, put_put}
 use Rattle.writing.proofs.put_field.Goals as goal
 
@@ -9,6 +9,6 @@ returns c =
     let inside : at < length b = omega (arith, c.requires) in
     let within : at ≤ length b = omega arith in
     record {
-      value = omega (arith, c.put-digits.ensures.value);
-      after = c.put-digits.ensures.after ∙ rw (put_one b at 44 inside) (put_put b at (44 ∷ []) (decimal c.args.n) within);
+      value = omega (arith, c.put_digits.ensures.value);
+      after = c.put_digits.ensures.after ∙ rw (put_one b at 44 inside) (put_put b at (44 ∷ []) (decimal c.args.n) within);
     }
