@@ -1,11 +1,10 @@
 -- Chains, their jitters and deadlines: what is monotone, what is in range, and what is in time.
-use Rattle.std.proofs.Common.{◌≡◌, ℕ, zero, suc, ◌+◌, ◌-◌, ◌<◌, ◌≤◌, true, List, [], ◌∷◌, ◌++◌, length, get_or, drop, replicate, refl, ap, ◌∙◌, ap₂, arith, length-append}
+use Rattle.std.proofs.Common.{◌≡◌, ℕ, zero, suc, ◌-◌, ◌<◌, ◌≤◌, true, List, [], ◌∷◌, ◌++◌, length, get_or, drop, replicate, refl, ap, ◌∙◌, ap₂, arith, length-append}
 use lib.ListN.{length-replicate}
 use Rattle.std.proofs.lemmas.List.{get_or_append_left, get_or-replicate, drop_at}
 use Rattle.records.specs.declared.fields.Row.{Row}
 use Rattle.records.specs.Ranges.{row_fits}
 use Rattle.records.proofs.InRange.{row_in_range}
-use Rattle.climb.specs.Answers.AtMost.{within}
 use Rattle.rules.specs.Rules.{valid, Under}
 use Rattle.rules.specs.Rules.Under.{ended, beside}
 use Rattle.rules.proofs.Lists.{Each, under_at, under_append, under_drop, each_append, each_drop, each_replicate, each_under}

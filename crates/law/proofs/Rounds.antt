@@ -4,9 +4,8 @@ use native.Mathlib.Decide.{dec_le}
 use lib.ListN.{length-replicate}
 use Rattle.std.proofs.lemmas.List.{ext_get_or}
 use Rattle.climb.specs.Answers.{AtMost}
-use Rattle.climb.specs.Answers.AtMost.{over}
 use Rattle.climb.proofs.Answers.{most_trans, most_refl, most_le, most_zero, over_within}
-use Rattle.rules.specs.Rules.{row, Meaning, Under, Laws}
+use Rattle.rules.specs.Rules.{Meaning, Under, Laws}
 use Rattle.rules.specs.Rules.Under.{ended, beside}
 use Rattle.rules.proofs.Lists.{Each, under_from, under_trans, under_same, under_zeros}
 use Rattle.law.specs.Assignments.{Held, rows_of, deadlines_of, jitters_of, zeros, total, Carries, Least, Round, Rounds}

@@ -229,7 +229,7 @@ start_after w (added e) = (_, Start.over_add w.1)
 start_after w dropped = (_, Start.after_drop)
 start_after w (recosts e) = (_, Start.after_recost)
 start_after w (found least) = (_, Start.after_solve least)
-start_after w found_none = (_, Start.after_Nothing)
+start_after w found_none = (_, Start.after_nothing)
 start_after w asked = (_, Start.over_question w.1)
 start_after w (turned_down f) = (_, Start.over_refusal f w.1)
 
@@ -240,20 +240,20 @@ start_exists answer ((c, a) ∷ h) l = start_after (start_exists answer h l.1) (
 pub start_same : {answer : Meaning} {h : Run} {xs ys : List ℕ} → Start answer h xs → Start answer h ys → xs ≡ ys
 start_same Start.new Start.new = refl
 start_same (Start.after_solve p) (Start.after_solve q) = least_same p q
-start_same Start.after_Nothing Start.after_Nothing = refl
-start_same Start.after_Nothing (Start.over_refusal f t) = absurd (true≢false f)
+start_same Start.after_nothing Start.after_nothing = refl
+start_same Start.after_nothing (Start.over_refusal f t) = absurd (true≢false f)
 start_same Start.after_drop Start.after_drop = refl
 start_same Start.after_recost Start.after_recost = refl
 start_same (Start.over_add {steps = steps} s) (Start.over_add t) = ap (λ xs. xs ++ replicate (length steps) 0) (start_same s t)
 start_same (Start.over_question s) (Start.over_question t) = start_same s t
 start_same (Start.over_refusal f s) (Start.over_refusal g t) = start_same s t
-start_same (Start.over_refusal f s) Start.after_Nothing = absurd (true≢false f)
+start_same (Start.over_refusal f s) Start.after_nothing = absurd (true≢false f)
 
 module _ (answer : Meaning) (laws : Laws answer) where
   pub start_ready : {h : Run} {xs : List ℕ} → Each Fine (held h) → Start answer h xs → Ready answer (held h) xs
   start_ready f Start.new = ready_zeros answer laws [] f
   start_ready f (Start.after_solve {h} least) = ready_least answer laws (held h) f least
-  start_ready f (Start.after_Nothing {h}) = ready_zeros answer laws (held h) f
+  start_ready f (Start.after_nothing {h}) = ready_zeros answer laws (held h) f
   start_ready {h} f Start.after_drop = ready_zeros answer laws (held h) f
   start_ready {h} f Start.after_recost = ready_zeros answer laws (held h) f
   start_ready f (Start.over_add {h} {c} {steps} s) =

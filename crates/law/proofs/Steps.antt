@@ -1,12 +1,12 @@
 -- Each call's step of the law over runs.
-use Rattle.std.proofs.Common.{◌≡◌, ℕ, zero, suc, ◌+◌, ◌<◌, ◌≤◌, Bool, true, false, cond, eqb, leb, ◌⊎◌, List, [], ◌∷◌, ◌++◌, length, get_or, take, Some, None, Option, sym, refl, ap, ◌∙◌, inl, inr, add_comm, arith, length-append, take_all, take-suc}
+use Rattle.std.proofs.Common.{◌≡◌, ℕ, zero, suc, ◌<◌, ◌≤◌, Bool, true, false, cond, eqb, leb, ◌⊎◌, List, [], ◌∷◌, ◌++◌, length, get_or, take, Some, None, Option, sym, refl, ap, ◌∙◌, inl, inr, add_comm, arith, length-append, take_all, take-suc}
 use mathlib.Core.Bool.{false≢true}
 use Rattle.std.proofs.lemmas.List.{get_or_append_left, get_or_push}
 use Rattle.std.proofs.lemmas.Bool.{leb-true, le-leb, lt-leb, eqb-true, eq-eqb, cases_eq}
 use Rattle.records.specs.declared.fields.StepFields.{StepFields}
 use Rattle.records.specs.declared.record.Chain.{Chain}
 use Rattle.rules.specs.Rules.{Meaning, Laws}
-use Rattle.rules.proofs.Lists.{Each, under_from, under_at}
+use Rattle.rules.proofs.Lists.{under_from, under_at}
 use Rattle.law.specs.declared.answers.Answer.{Answer}
 use Rattle.law.specs.declared.answers.Answer.TheVariants.{Done, Refused}
 use Rattle.law.specs.declared.answers.Refusal.{Refusal}
@@ -211,7 +211,7 @@ module _ (answer : Meaning) (laws : Laws answer) where
       rw computed (by n end (verdict_solves answer laws h n end fine counted) (counted_ends answer laws fine counted))
     where
       by : (n : ℕ) (end : Option (List ℕ)) → Solves answer h (verdict n end) → Ends answer (held h) end → Leads answer ((solve, verdict n end) ∷ h) (solved_with s (record { rounds = n; responses = end }))
-      by n None v ends = record { lawful = (v, l.lawful); chains = l.chains; starts = rw l.chains Start.after_Nothing; stands = refl }
+      by n None v ends = record { lawful = (v, l.lawful); chains = l.chains; starts = rw l.chains Start.after_nothing; stands = refl }
       by n (Some xs) v ends = record { lawful = (v, l.lawful); chains = l.chains; starts = Start.after_solve ends; stands = refl }
 
 -- ## Ask

@@ -5,7 +5,7 @@ use rules::NodeRule;
 
 // After every lawful run of calls on a plan with this rule, each call has an answer that is right, and only one.
 pub fn one_right_answer<R: NodeRule>(rule: &R)
-    ensures { Determined (answer rule.now) }
+    ensures { Determined (R.answer rule.now) }
 {
     let _ = rule;
 }
