@@ -29,9 +29,9 @@ removed t a b c span r e is =
     rw is
     (record {
       chains = e.chains ∙ ap (λ n. n - 1) r.chains;
-      rows = e.row_count ∙ r.rows;
+      rows = e.row_total ∙ r.rows;
       entry = e.entry ∙ rw (r.entries, r.chains);
-      row = rw (e.rows, e.row_count) r.row;
+      row = rw (e.rows, e.row_total) r.row;
       start = refl;
       standing = refl;
       whole = record { entries = e.whole.entries; rows = e.whole.rows; responses = refl };

@@ -3,7 +3,7 @@ ghost use Rattle.std.specs.Prelude.{◌≡◌, length, is_ok, if◌then◌else�
 ghost use Rattle.records.specs.Ranges.{fault_place};
 ghost use Rattle.law.specs.declared.answers.Answer.TheVariants.{Done};
 ghost use Rattle.law.specs.Runs.{first_bad, room_answer, add_answer};
-ghost use Rattle.law.specs.Runs.Call.{add as add-call};
+ghost use Rattle.law.specs.Runs.Call.{add as add_call};
 ghost use Rattle.law.specs.State.{answer_of, added, Keeps};
 ghost use Rattle.plan.specs.Contents.{chains_of, contents};
 
@@ -49,7 +49,7 @@ impl<R: NodeRule> Plan<R> {
         ensures rule { self.new.rule ≡ self.old.rule }
         ensures value { answer_of (λ _. Done) result ≡ add_answer (chains_of self.old.table) chain steps.now }
         ensures after { contents self.new.table ≡ (if is_ok result then added (contents self.old.table) chain steps.now else contents self.old.table) }
-        ensures run { Keeps (answer self.old.rule) (contents self.old.table) (add-call chain steps.now) (answer_of (λ _. Done) result) (contents self.new.table) }
+        ensures run { Keeps (R.answer self.old.rule) (contents self.old.table) (add_call chain steps.now) (answer_of (λ _. Done) result) (contents self.new.table) }
     {
         check_steps(steps)?;
         let fields = chain.fields();

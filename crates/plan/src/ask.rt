@@ -1,7 +1,7 @@
 // Ask: the jitter and the response of one step.
 ghost use Rattle.std.specs.Prelude.{◌≡◌};
 ghost use Rattle.law.specs.declared.answers.Answer.TheVariants.{Told};
-ghost use Rattle.law.specs.Runs.Call.{ask as ask-call};
+ghost use Rattle.law.specs.Runs.Call.{ask as ask_call};
 ghost use Rattle.law.specs.State.{answer_of, ask_answer, Keeps};
 ghost use Rattle.plan.specs.Contents.{contents};
 
@@ -13,7 +13,7 @@ impl<R: NodeRule> Plan<R> {
     // The jitter and the response of a step, counted from 1, or 6, 7 or 9.
     pub fn ask(&self, id: u32, step: u32) -> Result<Timing, Refusal>
         ensures value { answer_of (λ timing. Told timing) result ≡ ask_answer (contents self.now.table) id step }
-        ensures run { Keeps (answer self.now.rule) (contents self.now.table) (ask-call id step) (answer_of (λ timing. Told timing) result) (contents self.now.table) }
+        ensures run { Keeps (R.answer self.now.rule) (contents self.now.table) (ask_call id step) (answer_of (λ timing. Told timing) result) (contents self.now.table) }
     {
         let row = self.locate(id, step)?;
         if self.table.standing.is_none() {

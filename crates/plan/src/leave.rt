@@ -2,7 +2,7 @@
 ghost use Rattle.std.specs.Prelude.{◌≡◌, is_ok, if◌then◌else◌};
 ghost use Rattle.law.specs.declared.answers.Answer.TheVariants.{Done};
 ghost use Rattle.law.specs.Runs.{drop_answer};
-ghost use Rattle.law.specs.Runs.Call.{drop as drop-call};
+ghost use Rattle.law.specs.Runs.Call.{drop as drop_call};
 ghost use Rattle.law.specs.State.{answer_of, dropped, Keeps};
 ghost use Rattle.plan.specs.Contents.{chains_of, contents};
 
@@ -16,7 +16,7 @@ impl<R: NodeRule> Plan<R> {
         ensures rule { self.new.rule ≡ self.old.rule }
         ensures value { answer_of (λ _. Done) result ≡ drop_answer (chains_of self.old.table) id }
         ensures after { contents self.new.table ≡ (if is_ok result then dropped (contents self.old.table) id else contents self.old.table) }
-        ensures run { Keeps (answer self.old.rule) (contents self.old.table) (drop-call id) (answer_of (λ _. Done) result) (contents self.new.table) }
+        ensures run { Keeps (R.answer self.old.rule) (contents self.old.table) (drop_call id) (answer_of (λ _. Done) result) (contents self.new.table) }
     {
         let Some(span) = self.find(id) else {
             return Err(Refusal::IdUnknown);

@@ -35,7 +35,7 @@ impl<R: NodeRule> Plan<R> {
     pub fn open(rule: R) -> Plan<R>
         ensures rule { result.rule ≡ rule }
         ensures after { contents result.table ≡ new_plan }
-        ensures run { Leads (answer rule) [] (contents result.table) }
+        ensures run { Leads (R.answer rule) [] (contents result.table) }
     {
         let table = Table {
             entries: [NO_CHAIN; 16],

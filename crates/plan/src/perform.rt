@@ -14,9 +14,9 @@ impl<R: NodeRule> Plan<R> {
     // Makes a call that comes as data.
     pub fn perform(&mut self, call: &PlanCall) -> Answer
         ensures rule { self.new.rule ≡ self.old.rule }
-        ensures value { result ≡ call_answer (answer self.old.rule) (contents self.old.table) (meant call.now) }
-        ensures after { contents self.new.table ≡ call_after (answer self.old.rule) (contents self.old.table) (meant call.now) }
-        ensures run { Keeps (answer self.old.rule) (contents self.old.table) (meant call.now) result (contents self.new.table) }
+        ensures value { result ≡ call_answer (R.answer self.old.rule) (contents self.old.table) (meant call.now) }
+        ensures after { contents self.new.table ≡ call_after (R.answer self.old.rule) (contents self.old.table) (meant call.now) }
+        ensures run { Keeps (R.answer self.old.rule) (contents self.old.table) (meant call.now) result (contents self.new.table) }
     {
         match call {
             PlanCall::Add { chain, steps } => match self.add(*chain, steps.as_slice()) {
@@ -46,10 +46,10 @@ impl<R: NodeRule> Plan<R> {
     pub fn perform_all(&mut self, calls: &[PlanCall], answers: &mut [Answer]) -> usize
         ensures rule { self.new.rule ≡ self.old.rule }
         ensures count { result ≡ min (length calls.now) (length answers.old) }
-        ensures value { take result answers.new ≡ answers_to (answer self.old.rule) (contents self.old.table) (map meant (take result calls.now)) }
+        ensures value { take result answers.new ≡ answers_to (R.answer self.old.rule) (contents self.old.table) (map meant (take result calls.now)) }
         ensures rest { drop result answers.new ≡ drop result answers.old }
-        ensures after { contents self.new.table ≡ after_calls (answer self.old.rule) (contents self.old.table) (map meant (take result calls.now)) }
-        ensures run { (h : Run) → Leads (answer self.old.rule) h (contents self.old.table) → Leads (answer self.old.rule) (run_on (map meant (take result calls.now)) (take result answers.new) h) (contents self.new.table) }
+        ensures after { contents self.new.table ≡ after_calls (R.answer self.old.rule) (contents self.old.table) (map meant (take result calls.now)) }
+        ensures run { (h : Run) → Leads (R.answer self.old.rule) h (contents self.old.table) → Leads (R.answer self.old.rule) (run_on (map meant (take result calls.now)) (take result answers.new) h) (contents self.new.table) }
     {
         let count = calls.len().min(answers.len());
         for k in 0..count {
@@ -63,9 +63,9 @@ impl<R: NodeRule> Plan<R> {
 // Whatever the calls, each of the answers is the one that is right after the calls before it.
 pub fn replay<R: NodeRule + Drop>(rule: R, calls: &[PlanCall], answers: &mut [Answer]) -> usize
     ensures count { result ≡ min (length calls.now) (length answers.old) }
-    ensures value { take result answers.new ≡ answers_to (answer rule) new_plan (map meant (take result calls.now)) }
+    ensures value { take result answers.new ≡ answers_to (R.answer rule) new_plan (map meant (take result calls.now)) }
     ensures rest { drop result answers.new ≡ drop result answers.old }
-    ensures lawful { Lawful (answer rule) (run_on (map meant (take result calls.now)) (take result answers.new) []) }
+    ensures lawful { Lawful (R.answer rule) (run_on (map meant (take result calls.now)) (take result answers.new) []) }
 {
     Plan::open(rule).perform_all(calls, answers)
 }

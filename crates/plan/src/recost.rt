@@ -2,7 +2,7 @@
 ghost use Rattle.std.specs.Prelude.{◌≡◌, is_ok, if◌then◌else◌};
 ghost use Rattle.law.specs.declared.answers.Answer.TheVariants.{Done};
 ghost use Rattle.law.specs.Runs.{recost_answer};
-ghost use Rattle.law.specs.Runs.Call.{recost as recost-call};
+ghost use Rattle.law.specs.Runs.Call.{recost as recost_call};
 ghost use Rattle.law.specs.State.{answer_of, recosts, Keeps};
 ghost use Rattle.plan.specs.Contents.{chains_of, contents};
 
@@ -24,7 +24,7 @@ impl<R: NodeRule> Plan<R> {
         ensures rule { self.new.rule ≡ self.old.rule }
         ensures value { answer_of (λ _. Done) result ≡ recost_answer (chains_of self.old.table) id step cost }
         ensures after { contents self.new.table ≡ (if is_ok result then recosts (contents self.old.table) id step cost else contents self.old.table) }
-        ensures run { Keeps (answer self.old.rule) (contents self.old.table) (recost-call id step cost) (answer_of (λ _. Done) result) (contents self.new.table) }
+        ensures run { Keeps (R.answer self.old.rule) (contents self.old.table) (recost_call id step cost) (answer_of (λ _. Done) result) (contents self.new.table) }
     {
         let row = self.locate(id, step)?;
         if cost == 0 || cost > 1_000_000 {

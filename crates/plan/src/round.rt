@@ -2,7 +2,7 @@
 ghost use Rattle.std.specs.Prelude.{◌≡◌, ◌+◌, ◌<◌, ◌≤◌, true, IfSome, slice_index};
 ghost use Rattle.std.specs.Option.{option_map};
 ghost use Rattle.law.specs.Assignments.{rows_of, deadlines_of, jitters_of, total};
-ghost use Rattle.law.specs.State.{kept_within, round as round-of, same as same_numbers};
+ghost use Rattle.law.specs.State.{kept_within, round as round_of, same as same_numbers};
 ghost use Rattle.plan.specs.Contents.{chains_of, in_use, responses_fit_in};
 
 use crate::plan::Plan;
@@ -71,7 +71,7 @@ impl<R: NodeRule> Plan<R> {
     // The response of a row at these jitters, or `None` where it is over or past its chain's deadline.
     fn row_response(&self, row: usize, jitters: &[u32]) -> Option<u32>
         requires { row < self.now.table.row_count }
-        ensures value { result ≡ kept_within (slice_index (deadlines_of (chains_of self.now.table)) row) (answer self.now.rule (rows_of (chains_of self.now.table)) jitters.now row) }
+        ensures value { result ≡ kept_within (slice_index (deadlines_of (chains_of self.now.table)) row) (R.answer self.now.rule (rows_of (chains_of self.now.table)) jitters.now row) }
         ensures small { IfSome result (λ response. response ≤ 1000000) }
     {
         let response = self.rule.response(self.rows(), jitters, row)?;
@@ -86,7 +86,7 @@ impl<R: NodeRule> Plan<R> {
     // The responses of the next round, or `None` where one is over or past its chain's deadline.
     pub(crate) fn round(&self, responses: &[u32; 64]) -> Option<[u32; 64]>
         requires { responses_fit_in self.now.table responses.now ≡ true }
-        ensures value { option_map (in_use self.now.table) result ≡ round-of (answer self.now.rule) (chains_of self.now.table) (in_use self.now.table responses.now) }
+        ensures value { option_map (in_use self.now.table) result ≡ round_of (R.answer self.now.rule) (chains_of self.now.table) (in_use self.now.table responses.now) }
         ensures small { IfSome result (λ next. responses_fit_in self.now.table next ≡ true) }
     {
         let jitters = self.jitters(responses);

@@ -1,7 +1,7 @@
 // Solve: rounds from where the plan's memory stands, until one refuses or changes nothing.
 ghost use Rattle.std.specs.Prelude.{◌≡◌, true, IfSome};
 ghost use Rattle.law.specs.declared.answers.Answer.TheVariants.{Solved};
-ghost use Rattle.law.specs.Runs.Call.{solve as solve-call};
+ghost use Rattle.law.specs.Runs.Call.{solve as solve_call};
 ghost use Rattle.law.specs.State.{answer_of, solving, solve_answer, solved_with, Keeps};
 ghost use Rattle.plan.specs.Contents.{contents, responses_fit_in, outcome_of};
 
@@ -13,7 +13,7 @@ use rules::NodeRule;
 impl<R: NodeRule> Plan<R> {
     // What a solve comes to.
     fn settle(&self) -> Settled
-        ensures value { outcome_of self.now.table result ≡ solving (answer self.now.rule) (contents self.now.table) }
+        ensures value { outcome_of self.now.table result ≡ solving (R.answer self.now.rule) (contents self.now.table) }
         ensures small { IfSome result.responses (λ xs. responses_fit_in self.now.table xs ≡ true) }
     {
         let most = self.most_rounds();
@@ -44,9 +44,9 @@ impl<R: NodeRule> Plan<R> {
     // The rounds to the least responses that carry the chains, which are then kept, or refusal 10 with the rounds made.
     pub fn solve(&mut self) -> Result<u32, Refusal>
         ensures rule { self.new.rule ≡ self.old.rule }
-        ensures value { answer_of (λ rounds. Solved rounds) result ≡ solve_answer (solving (answer self.old.rule) (contents self.old.table)) }
-        ensures after { contents self.new.table ≡ solved_with (contents self.old.table) (solving (answer self.old.rule) (contents self.old.table)) }
-        ensures run { Keeps (answer self.old.rule) (contents self.old.table) solve-call (answer_of (λ rounds. Solved rounds) result) (contents self.new.table) }
+        ensures value { answer_of (λ rounds. Solved rounds) result ≡ solve_answer (solving (R.answer self.old.rule) (contents self.old.table)) }
+        ensures after { contents self.new.table ≡ solved_with (contents self.old.table) (solving (R.answer self.old.rule) (contents self.old.table)) }
+        ensures run { Keeps (R.answer self.old.rule) (contents self.old.table) solve_call (answer_of (λ rounds. Solved rounds) result) (contents self.new.table) }
     {
         let Settled { rounds, responses } = self.settle();
         match responses {

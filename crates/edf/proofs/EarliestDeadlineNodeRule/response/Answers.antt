@@ -3,4 +3,4 @@ use Rattle.edf.proofs.EarliestDeadlineNodeRule.response.Goals as goal
 
 pub returns : goal.returns
 unfolding earliest_deadline
-returns c = c.worst-response.ensures
+returns c = c.worst_response.ensures

@@ -3,4 +3,4 @@ use Rattle.fixed.proofs.FixedPriorityNodeRule.response.Goals as goal
 
 pub returns : goal.returns
 unfolding fixed_priority
-returns c = c.worst-response.ensures
+returns c = c.worst_response.ensures

@@ -15,8 +15,8 @@ returns-then-self-steps-gt64 g c =
     let low : 1 ≤ c.args.steps = omega (arith, c.if-steps-eq0.false) in
     steps_full (chains_of t) c.args.id c.args.steps low c.if-steps-gt16.false (omega arith) (omega arith)
 
-pub returns-then-is-some : goal.returns-then-is-some
-returns-then-is-some g c =
+pub returns-then-is_some : goal.returns-then-is_some
+returns-then-is_some g c =
     let p = c.args.self.now in
     let t = p.table in
     let room : Room t = record { rows = p.rows_room; few = p.few_rows; counted = p.rows_counted } in
@@ -24,7 +24,7 @@ returns-then-is-some g c =
     let chains = length_chains (entries_of t) (table_rows t) in
     let entries = length-take-le t.entry_count t.entries (omega arith) in
     let low : 1 ≤ c.args.steps = omega (arith, c.if-steps-eq0.false) in
-    let held = sym (some_span (chains_of t) c.args.id) ∙ ap is_some (sym c.find.ensures) ∙ sym c.if-is-some.ensures in
+    let held = sym (some_span (chains_of t) c.args.id) ∙ ap is_some (sym c.find.ensures) ∙ sym c.if-is_some.ensures in
     id_held (chains_of t) c.args.id c.args.steps low c.if-steps-gt16.false (omega arith) (omega arith) held
 
 pub returns : goal.returns
@@ -36,5 +36,5 @@ returns g c =
     let chains = length_chains (entries_of t) (table_rows t) in
     let entries = length-take-le t.entry_count t.entries (omega arith) in
     let low : 1 ≤ c.args.steps = omega (arith, c.if-steps-eq0.false) in
-    let held = sym (some_span (chains_of t) c.args.id) ∙ ap is_some (sym c.find.ensures) ∙ sym c.if-is-some.ensures in
+    let held = sym (some_span (chains_of t) c.args.id) ∙ ap is_some (sym c.find.ensures) ∙ sym c.if-is_some.ensures in
     room_done (chains_of t) c.args.id c.args.steps low c.if-steps-gt16.false (omega arith) (omega arith) held

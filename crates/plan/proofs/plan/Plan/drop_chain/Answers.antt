@@ -7,10 +7,10 @@ use Rattle.plan.proofs.Dropping.{chain_inside, rows_inside, sound_removed, conte
 use Rattle.plan.proofs.Memory.{Room, length_chains, length_rows_held}
 use Rattle.plan.proofs.plan.Plan.drop_chain.Goals as goal
 
-pub returns-in-default : goal.returns-in-default
-returns-in-default g c =
+pub returns-in_default : goal.returns-in_default
+returns-in_default g c =
     let p = c.args.self.now in
-    let held = sym (some_span (chains_of p.table) c.args.id) ∙ ap is_some (sym c.in-default.ensures) in
+    let held = sym (some_span (chains_of p.table) c.args.id) ∙ ap is_some (sym c.in_default.ensures) in
     let made = drop_refused (g.R.NodeRule.answer p.rule) (contents p.table) c.args.id held in
     record { rule = refl; value = made.value; after = refl; run = made.run }
 
@@ -33,8 +33,8 @@ remove-requires g c =
       few_chains = p.few_chains;
     }
 
-pub invariant-of-self : goal.invariant-of-self
-invariant-of-self g c =
+pub invariant_of-self : goal.invariant_of-self
+invariant_of-self g c =
     let p = c.args.self.now in
     let room : Room p.table = record { rows = p.rows_room; few = p.few_rows; counted = p.rows_counted } in
     let before : Sound p.table =
@@ -42,7 +42,7 @@ invariant-of-self g c =
     let found = span_shows (chains_of p.table) c.args.id c.in-Some.span c.in-Some.ensures in
     let s = sound_removed room before c.args.id c.in-Some.span found c.remove.ensures in
     let w = c.remove.ensures.whole in
-    (w.entries, (w.rows, (w.responses, (s.few_chains, (s.few_rows, (s.rows_counted, (s.chains_fit, (s.rows_fit, (s.responses_fit_in, tt)))))))))
+    record { entries_room = w.entries; rows_room = w.rows; responses_room = w.responses; few_chains = s.few_chains; few_rows = s.few_rows; rows_counted = s.rows_counted; chains_fit = s.chains_fit; rows_fit = s.rows_fit; responses_fit = s.responses_fit_in }
 
 pub returns : goal.returns
 returns g c =

@@ -10,8 +10,8 @@ returns-then-held-id g c =
     let enough = room_enough {t = t} (record { rows = c.args.self.now.rows_room; few = c.args.self.now.few_rows; counted = c.args.self.now.rows_counted }) in
     hit ∙ c.loop-index.invariant.0 ∙ span_is c.args.id (entries_of t) (table_rows t) enough
 
-pub overflow-add-first : goal.overflow-add-first
-overflow-add-first g c =
+pub overflow_add-first : goal.overflow_add-first
+overflow_add-first g c =
     let s = next_steps c.entries-held-items.result.now c.entries-held-items.ensures c.loop-index.index c.loop-index-test.true in
     omega (arith, c.loop-index.invariant.1)
 

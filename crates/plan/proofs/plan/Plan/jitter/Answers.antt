@@ -8,14 +8,14 @@ use Rattle.plan.proofs.Timing.{delay_small, response_small, jitter_is, first_bef
 use Rattle.plan.proofs.plan.Plan.jitter.Goals as goal
 use Rattle.plan.proofs.plan.Plan.jitter.Goals.{then-place-eq0, else-place-eq0}
 
-pub overflow-sub-before : goal.overflow-sub-before
-overflow-sub-before g c =
+pub overflow_sub-before : goal.overflow_sub-before
+overflow_sub-before g c =
     let s = place_small (chains_of c.args.self.now.table) c.args.row c.place-place.result c.place-place.ensures.value in
     omega (arith, c.if-place-eq0.false)
 
-pub overflow-add-result : goal.overflow-add-result
+pub overflow_add-result : goal.overflow_add-result
 unfolding no_row
-overflow-add-result g c =
+overflow_add-result g c =
     let p = c.args.self.now in
     let room : Room p.table = record { rows = p.rows_room; few = p.few_rows; counted = p.rows_counted } in
     let delay = delay_small room c.args.row c.requires.inside p.rows_fit in

@@ -5,8 +5,8 @@ use Rattle.plan.proofs.Asking.{place_inside, span_shows, named_ok}
 use Rattle.plan.proofs.Memory.{Room, length_rows_held}
 use Rattle.plan.proofs.plan.Plan.locate.Goals as goal
 
-pub overflow-add-result : goal.overflow-add-result
-overflow-add-result g c =
+pub overflow_add-result : goal.overflow_add-result
+overflow_add-result g c =
     let p = c.args.self.now in
     let cs = chains_of p.table in
     let room : Room p.table = record { rows = p.rows_room; few = p.few_rows; counted = p.rows_counted } in

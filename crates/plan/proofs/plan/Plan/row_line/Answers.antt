@@ -4,13 +4,13 @@ use Rattle.plan.proofs.Listed.{fields_are}
 use Rattle.plan.proofs.Places.{place_small}
 use Rattle.plan.proofs.plan.Plan.row_line.Goals as goal
 
-pub overflow-cast-step : goal.overflow-cast-step
-overflow-cast-step g c =
+pub overflow_cast-step : goal.overflow_cast-step
+overflow_cast-step g c =
     let s = place_small (chains_of c.args.self.now.table) c.args.row c.place-place.result c.place-place.ensures.value in
     omega (arith, c.requires)
 
-pub overflow-add-step : goal.overflow-add-step
-overflow-add-step g c =
+pub overflow_add-step : goal.overflow_add-step
+overflow_add-step g c =
     let s = place_small (chains_of c.args.self.now.table) c.args.row c.place-place.result c.place-place.ensures.value in
     omega (arith, c.requires)
 

@@ -11,8 +11,8 @@ loop-row-init g c = let e = ap length (rows_none (contents c.args.self.now.table
 pub loop-row-preserved : goal.loop-row-preserved
 loop-row-preserved g c =
     let more = length_rows_more (contents c.args.self.now.table) c.loop-row.row in
-    let line = ap (λ ns. length (line_bytes (codes "step") ns)) c.row-line.ensures in
-    omega (arith, c.loop-row.invariant, c.line-len.ensures)
+    let line = ap (λ ns. length (line_bytes (codes "step") ns)) c.row_line.ensures in
+    omega (arith, c.loop-row.invariant, c.line_len.ensures)
 
 pub returns : goal.returns
 returns g c =

@@ -3,11 +3,11 @@ use Rattle.plan.proofs.Memory.{Room}
 use Rattle.plan.proofs.Solving.{zeros_fit, solve_kept, solve_forgot}
 use Rattle.plan.proofs.plan.Plan.solve.Goals as goal
 
-pub invariant-of-self-in-None : goal.invariant-of-self-in-None
-invariant-of-self-in-None g c =
+pub invariant_of-self-in-None : goal.invariant_of-self-in-None
+invariant_of-self-in-None g c =
     let p = c.args.self.now in
     rw c.forget.ensures
-    (p.entries_room, (p.rows_room, (refl, (p.few_chains, (p.few_rows, (p.rows_counted, (p.chains_fit, (p.rows_fit, (zeros_fit p.table.row_count p.few_rows, tt)))))))))
+    (record { entries_room = p.entries_room; rows_room = p.rows_room; responses_room = refl; few_chains = p.few_chains; few_rows = p.few_rows; rows_counted = p.rows_counted; chains_fit = p.chains_fit; rows_fit = p.rows_fit; responses_fit = zeros_fit p.table.row_count p.few_rows })
 
 pub returns-in-Some : goal.returns-in-Some
 returns-in-Some g c =

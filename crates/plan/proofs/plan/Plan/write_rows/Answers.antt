@@ -9,12 +9,12 @@ use Rattle.plan.proofs.plan.Plan.write_rows.Goals as goal
 pub loop-row-init : goal.loop-row-init
 loop-row-init g c = rw (rows_none (contents c.args.self.now.table)) (sym (add-zero c.args.at), sym (put_none c.args.buffer.now c.args.at))
 
-pub write-line-end-requires : goal.write-line-end-requires
-write-line-end-requires g c =
+pub write_line-end-requires : goal.write_line-end-requires
+write_line-end-requires g c =
     let s = contents c.args.self.now.table in
     let k = c.loop-row.row in
     let more = length_rows_more s k in
-    let line = ap (λ ns. length (line_bytes (codes "step") ns)) c.row-line.ensures in
+    let line = ap (λ ns. length (line_bytes (codes "step") ns)) c.row_line.ensures in
     let part = rows_part s (k + 1) c.args.self.now.table.row_count (omega arith) in
     let same = length_put c.args.buffer.now c.args.at (rows_bytes s k) (omega (arith, c.requires)) in
     let now = ap length c.loop-row.invariant.1 in
@@ -28,12 +28,12 @@ loop-row-preserved g c =
     let at = c.args.at in
     let k = c.loop-row.row in
     let more = length_rows_more s k in
-    let line = ap (line_bytes (codes "step")) c.row-line.ensures in
+    let line = ap (line_bytes (codes "step")) c.row_line.ensures in
     let size = ap length line in
     let inside : at ≤ length b = omega (arith, c.requires) in
     let put = put_put b at (rows_bytes s k) (row_line (chains_of t) (responses_of t) k) inside in (
-      omega (arith, c.write-line-end.ensures.value, c.loop-row.invariant.0),
-      c.write-line-end.ensures.after ∙ rw (line, c.loop-row.invariant.1, c.loop-row.invariant.0) put ∙ ap (put_at b at) (sym (rows_more s k)),
+      omega (arith, c.write_line-end.ensures.value, c.loop-row.invariant.0),
+      c.write_line-end.ensures.after ∙ rw (line, c.loop-row.invariant.1, c.loop-row.invariant.0) put ∙ ap (put_at b at) (sym (rows_more s k)),
     )
 
 pub returns : goal.returns

@@ -20,7 +20,7 @@ returns c =
     let inside : c.args.first + 1 ≤ t.entry_count = omega (arith, c.requires.inside) in
     record {
       rows = i.0;
-      row_count = i.1;
+      row_total = i.1;
       chains = refl;
       entry = closing_ends t.entries c.args.first 1 t.entry_count c.loop-index.index c.loop-index.self.entries inside end i.3;
       whole = record { entries = i.3.same_length ∙ c.requires.whole.entries; rows = ap length i.0 ∙ c.requires.whole.rows; responses = ap length i.2 ∙ c.requires.whole.responses };

@@ -2,8 +2,8 @@ use Rattle.std.proofs.Common.{arith}
 use Rattle.plan.proofs.Dropping.{removed}
 use Rattle.plan.proofs.table.Table.remove.Goals as goal
 
-pub close-entries-requires : goal.close-entries-requires
-close-entries-requires c = let e = c.close-rows.ensures.chains in record { whole = c.close-rows.ensures.whole; inside = omega (arith, c.requires.chain); few = omega (arith, c.requires.few_chains) }
+pub close_entries-requires : goal.close_entries-requires
+close_entries-requires c = let e = c.close_rows.ensures.chains in record { whole = c.close_rows.ensures.whole; inside = omega (arith, c.requires.chain); few = omega (arith, c.requires.few_chains) }
 
 pub returns : goal.returns
-returns c = removed c.args.self.now c.close-rows.new.self c.close-entries.new.self c.forget.new.self c.args.span c.close-rows.ensures c.close-entries.ensures c.forget.ensures
+returns c = removed c.args.self.now c.close_rows.new.self c.close_entries.new.self c.forget.new.self c.args.span c.close_rows.ensures c.close_entries.ensures c.forget.ensures
