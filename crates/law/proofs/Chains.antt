@@ -13,10 +13,10 @@ use Rattle.law.specs.Assignments.{Held, rows_of, deadlines_of, jitters_in, jitte
 
 -- ## Totals
 
-pub getD_zeros : (n i : ℕ) → ◌≡◌ {A = ℕ} (get_or (replicate n 0) i 0) 0
-getD_zeros zero i = refl
-getD_zeros (suc n) zero = refl
-getD_zeros (suc n) (suc i) = getD_zeros n i
+pub get_or_zeros : (n i : ℕ) → ◌≡◌ {A = ℕ} (get_or (replicate n 0) i 0) 0
+get_or_zeros zero i = refl
+get_or_zeros (suc n) zero = refl
+get_or_zeros (suc n) (suc i) = get_or_zeros n i
 
 pub under_total : {xs ys : List ℕ} → Under xs ys → total xs ≤ total ys
 under_total ended = omega arith

@@ -9,7 +9,7 @@ use Rattle.climb.proofs.Answers.{most_trans, most_zero}
 use Rattle.rules.specs.Rules.{Meaning, Under, Laws}
 use Rattle.rules.proofs.Lists.{Each, under_append, under_front, under_zeros, each_front}
 use Rattle.law.specs.Assignments.{Held, rows_of, deadlines_of, jitters_in, jitters_of, zeros, Carries, Least}
-use Rattle.law.proofs.Chains.{getD_zeros, Fine, length_deadlines, under_in_time, call_valid}
+use Rattle.law.proofs.Chains.{get_or_zeros, Fine, length_deadlines, under_in_time, call_valid}
 use Rattle.law.proofs.Rounds.{BelowAll, Ready, ready_least, carries_in_time}
 
 -- ## More chains
@@ -74,7 +74,7 @@ module _ (answer : Meaning) (laws : Laws answer) (cs ds : List Held) (all : Each
           let l = s.ascending.one_each in
           let k : i < length (rows_of cs) = omega arith in
           rw (get_or_append_left xs (zeros ds) 0 i h) (most_trans (s.ascending.rises i k) (rule_append xs (zeros ds) i l s.in_time k))
-      by i (no h) = rw (get_or-append_right xs (zeros ds) (length xs) i 0 refl (omega arith), getD_zeros) (most_zero _)
+      by i (no h) = rw (get_or-append_right xs (zeros ds) (length xs) i 0 refl (omega arith), get_or_zeros) (most_zero _)
 
       below : BelowAll answer (cs ++ ds) (xs ++ zeros ds)
       below zs c =

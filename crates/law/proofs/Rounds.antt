@@ -9,7 +9,7 @@ use Rattle.rules.specs.Rules.{Meaning, Under, Laws}
 use Rattle.rules.specs.Rules.Under.{ended, beside}
 use Rattle.rules.proofs.Lists.{Each, under_from, under_trans, under_same, under_zeros}
 use Rattle.law.specs.Assignments.{Held, rows_of, deadlines_of, jitters_of, zeros, total, Carries, Least, Round, Rounds}
-use Rattle.law.proofs.Chains.{getD_zeros, under_total, under_full, length_jitters, jitters_under, Fine, length_deadlines, in_time_rising, under_in_time}
+use Rattle.law.proofs.Chains.{get_or_zeros, under_total, under_full, length_jitters, jitters_under, Fine, length_deadlines, in_time_rising, under_in_time}
 
 -- ## Answers
 
@@ -40,11 +40,11 @@ answers_same {f} {n} ys zs a b =
     let m = b.0 in
     ext_get_or 0 ys zs (cc) (λ i h. let k : i < n = omega arith in let p = a.1 i k in let q = b.1 i k in cc)
 
-decUnder : (xs ys : List ℕ) → Dec (Under xs ys)
-decUnder [] [] = yes ended
-decUnder [] (y ∷ ys) = no (λ u. elim u [ ])
-decUnder (x ∷ xs) [] = no (λ u. elim u [ ])
-decUnder (x ∷ xs) (y ∷ ys) = both (dec_le x y) (decUnder xs ys)
+dec_under : (xs ys : List ℕ) → Dec (Under xs ys)
+dec_under [] [] = yes ended
+dec_under [] (y ∷ ys) = no (λ u. elim u [ ])
+dec_under (x ∷ xs) [] = no (λ u. elim u [ ])
+dec_under (x ∷ xs) (y ∷ ys) = both (dec_le x y) (dec_under xs ys)
   where
     heads : Under (x ∷ xs) (y ∷ ys) → x ≤ y
     heads (beside h u) = h
@@ -141,7 +141,7 @@ module _ (answer : Meaning) (laws : Laws answer) (cs : List Held) (fine : Each F
 
       by : AllOrOver (answers_at xs) (length (rows_of cs)) → RoundOrNone xs
       by (inr (i, h, g)) = inr (λ zs r. over_within g (round_enough r i h))
-      by (inl (ys, a)) = timed ys a (decUnder ys (deadlines_of cs))
+      by (inl (ys, a)) = timed ys a (dec_under ys (deadlines_of cs))
 
   -- 3. what rounds from below every carrying assignment end in
   carries_from : {xs : List ℕ} → Round answer cs xs xs → Carries answer cs xs
@@ -151,7 +151,7 @@ module _ (answer : Meaning) (laws : Laws answer) (cs : List Held) (fine : Each F
   step_below r b zs c = round_under zs r c.one_each (enough_under zs (b zs c) c.enough)
 
   pub rounds_end : {xs : List ℕ} {n : ℕ} {end : Option (List ℕ)} → BelowAll answer cs xs → Rounds answer cs xs n end → Ends answer cs end
-  rounds_end {xs} b (Rounds.refuses no-round) = λ zs c. let w = round_from xs zs c.one_each (carries_in_time c) (enough_under zs (b zs c) c.enough) in no-round w.0 w.1
+  rounds_end {xs} b (Rounds.refuses no_round) = λ zs c. let w = round_from xs zs c.one_each (carries_in_time c) (enough_under zs (b zs c) c.enough) in no_round w.0 w.1
   rounds_end b (Rounds.settles r) = record { carries = carries_from r; below_all = b }
   rounds_end b (Rounds.goes_on r ne rs) = rounds_end (step_below r b) rs
 
@@ -168,7 +168,7 @@ module _ (answer : Meaning) (laws : Laws answer) (cs : List Held) (fine : Each F
       by (no h) = inr (omega arith)
 
   pub rounds_bound : {xs : List ℕ} {n : ℕ} {end : Option (List ℕ)} → Ascending answer cs xs → Rounds answer cs xs n end → n ≤ 1 + (total (deadlines_of cs) - total xs)
-  rounds_bound a (Rounds.refuses no-round) = omega arith
+  rounds_bound a (Rounds.refuses no_round) = omega arith
   rounds_bound a (Rounds.settles r) = omega arith
   rounds_bound a (Rounds.goes_on r ne rs) =
       let k = rounds_bound (step_ascends a r) rs in
@@ -177,9 +177,9 @@ module _ (answer : Meaning) (laws : Laws answer) (cs : List Held) (fine : Each F
 
   -- from below there are no fewer rounds
   pub rounds_fewest : {xs ys : List ℕ} {m n : ℕ} {end other : Option (List ℕ)} → Under xs ys → BelowAll answer cs ys → Rounds answer cs xs m end → Rounds answer cs ys n other → n ≤ m
-  rounds_fewest u b (Rounds.refuses no-round) (Rounds.refuses no_other) = omega arith
-  rounds_fewest u b (Rounds.refuses no-round) (Rounds.settles r) = omega arith
-  rounds_fewest {xs} u b (Rounds.refuses no-round) (Rounds.goes_on {ys = zs} r ne rs) = let w = round_from xs zs r.one_each r.in_time (enough_under zs u (round_enough r)) in absurd (no-round w.0 w.1)
+  rounds_fewest u b (Rounds.refuses no_round) (Rounds.refuses no_other) = omega arith
+  rounds_fewest u b (Rounds.refuses no_round) (Rounds.settles r) = omega arith
+  rounds_fewest {xs} u b (Rounds.refuses no_round) (Rounds.goes_on {ys = zs} r ne rs) = let w = round_from xs zs r.one_each r.in_time (enough_under zs u (round_enough r)) in absurd (no_round w.0 w.1)
   rounds_fewest u b (Rounds.settles q) (Rounds.refuses no_other) = omega arith
   rounds_fewest u b (Rounds.settles q) (Rounds.settles r) = omega arith
   rounds_fewest {xs} {ys} u b (Rounds.settles q) (Rounds.goes_on {ys = zs} r ne rs) =
@@ -191,9 +191,9 @@ module _ (answer : Meaning) (laws : Laws answer) (cs : List Held) (fine : Each F
 
   -- and what they end in, and after how many, is one thing
   pub rounds_same : {xs : List ℕ} {m n : ℕ} {end other : Option (List ℕ)} → Rounds answer cs xs m end → Rounds answer cs xs n other → (m ≡ n) × (end ≡ other)
-  rounds_same (Rounds.refuses no-round) (Rounds.refuses no_other) = (refl, refl)
-  rounds_same (Rounds.refuses no-round) (Rounds.settles r) = absurd (no-round _ r)
-  rounds_same (Rounds.refuses no-round) (Rounds.goes_on r ne rs) = absurd (no-round _ r)
+  rounds_same (Rounds.refuses no_round) (Rounds.refuses no_other) = (refl, refl)
+  rounds_same (Rounds.refuses no_round) (Rounds.settles r) = absurd (no_round _ r)
+  rounds_same (Rounds.refuses no_round) (Rounds.goes_on r ne rs) = absurd (no_round _ r)
   rounds_same (Rounds.settles q) (Rounds.refuses no_other) = absurd (no_other _ q)
   rounds_same (Rounds.settles q) (Rounds.settles r) = (refl, refl)
   rounds_same (Rounds.settles q) (Rounds.goes_on r ne rs) = absurd (ne (answers_same _ _ (answers_of q) (answers_of r)))
@@ -248,7 +248,7 @@ module _ (answer : Meaning) (laws : Laws answer) (cs : List Held) (fine : Each F
   ready_zeros =
       let n = length (rows_of cs) in
       record {
-        ascending = record { one_each = length-replicate n 0; rises = λ i h. rw getD_zeros (most_zero _) };
+        ascending = record { one_each = length-replicate n 0; rises = λ i h. rw get_or_zeros (most_zero _) };
         in_time = under_zeros n (deadlines_of cs) (length_deadlines cs);
         below_all = λ ys c. under_zeros n ys c.one_each;
       }

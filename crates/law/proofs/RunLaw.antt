@@ -306,7 +306,7 @@ module _ (answer : Meaning) (laws : Laws answer) (h : Run) where
   solves_same a b f s t =
       let (m, end, c, p) = solves_verdict s in
       let (n, other, d, q) = solves_verdict t in
-      let (same-rounds, same_end) = counted_same answer laws f c d in
+      let (same_rounds, same_end) = counted_same answer laws f c d in
       cc
 
 -- ## While a solve stands
