@@ -1,8 +1,6 @@
 -- Reading one field after another, up to the first fault.
-use Rattle.std.proofs.Common.{◌≡◌, ℕ, ◌+◌, Bool, cond, List, IsErrAnd, Some, None, Ok, Err, codes, Decides, Option, Result, sym, refl, ap, ◌∙◌, Bor, rules}
-use Rattle.std.specs.Cmp.Lexicographic.{Matches}
+use Rattle.std.proofs.Common.{◌≡◌, ℕ, ◌+◌, Bool, cond, List, IsErrAnd, Some, None, Ok, Err, codes, Option, Result, sym, refl, ap, ◌∙◌, Bor}
 use Rattle.std.specs.Str.{bytes_eq}
-use Rattle.std.proofs.lemmas.Slice.Eq.{slice_eq-Decides, bytes_eq-Decides}
 use Rattle.std.proofs.lemmas.Result.{err_from_is_err_and}
 use Rattle.mixed.specs.declared.letters.Letter.{Letter}
 use Rattle.lines.specs.declared.cursor.Cursor.{Cursor}
@@ -12,7 +10,6 @@ use Rattle.lines.specs.declared.line.Kind.TheVariants as kind
 use Rattle.lines.specs.Fields.{fields_of, at_place}
 use Rattle.lines.specs.Lines.{◌then◌, counted, kind_named, line_as, line_of}
 use Rattle.lines.specs.Places.{number_at, letter_at, all_fields, Moved}
-use Rattle.std.proofs.lemmas.Bool.Decides.{Decides-eqb}
 
 -- the cursor stands on this line, with these fields, after k of them
 pub record At (fields : List (List ℕ)) (k : ℕ) (c : Cursor) : Type 0 where
@@ -61,11 +58,8 @@ handed_on r h = let p = err_from_is_err_and r h in p.1 ∙ ap Err p.2
 
 -- ## The kind word, and the record after it
 
-pub tested : (xs ys : List ℕ) (r t : Bool) → Matches (λ (a b : ℕ) (u : Bool). Decides u (a ≡ b)) xs ys r → r ≡ t → bytes_eq xs ys ≡ t
-tested xs ys r t m e = sym (same xs ys r (slice_eq-Decides Decides-eqb xs ys r m)) ∙ e
-  where
-    same : (xs ys : List ℕ) (r : Bool) → Decides r (xs ≡ ys) → r ≡ bytes_eq xs ys
-    same xs ys r h = search (rules, bytes_eq-Decides)
+pub tested : (xs ys : List ℕ) (r t : Bool) → r ≡ bytes_eq xs ys → r ≡ t → bytes_eq xs ys ≡ t
+tested xs ys r t m e = sym m ∙ e
 
 abbrev picked : Bool → Bool → Bool → Option Kind
 picked node chain step = cond node (Some kind.Node) (cond chain (Some kind.Chain) (cond step (Some kind.Step) None))
