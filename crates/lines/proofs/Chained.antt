@@ -1,18 +1,13 @@
 -- Reading one field after another, up to the first fault.
-use Rattle.std.proofs.Common.{◌≡◌, ℕ, ◌+◌, Bool, cond, List, IsErrAnd, Some, None, Ok, Err, codes, Decides, Option, Result, sym, refl, ap, ◌∙◌, Bor, rules}
-use Rattle.std.specs.Cmp.Lexicographic.{Matches}
-use Rattle.std.specs.Str.{bytes_eq}
-use Rattle.std.proofs.lemmas.Slice.Eq.{slice_eq-Decides, bytes_eq-Decides}
+use Rattle.std.proofs.Common.{◌≡◌, ℕ, ◌+◌, List, IsErrAnd, Some, Ok, Err, Result, sym, refl, ap, ◌∙◌, Bor}
 use Rattle.std.proofs.lemmas.Result.{err_from_is_err_and}
 use Rattle.mixed.specs.declared.letters.Letter.{Letter}
 use Rattle.lines.specs.declared.cursor.Cursor.{Cursor}
 use Rattle.lines.specs.declared.faults.LineFault.{LineFault}
 use Rattle.lines.specs.declared.line.Kind.{Kind}
-use Rattle.lines.specs.declared.line.Kind.TheVariants as kind
 use Rattle.lines.specs.Fields.{fields_of, at_place}
 use Rattle.lines.specs.Lines.{◌then◌, counted, kind_named, line_as, line_of}
 use Rattle.lines.specs.Places.{number_at, letter_at, all_fields, Moved}
-use Rattle.std.proofs.lemmas.Bool.Decides.{Decides-eqb}
 
 -- the cursor stands on this line, with these fields, after k of them
 pub record At (fields : List (List ℕ)) (k : ℕ) (c : Cursor) : Type 0 where
@@ -60,19 +55,6 @@ pub handed_on : {Y F : Type 0} {fault : F} (r : Result Y F) → IsErrAnd r (λ y
 handed_on r h = let p = err_from_is_err_and r h in p.1 ∙ ap Err p.2
 
 -- ## The kind word, and the record after it
-
-pub tested : (xs ys : List ℕ) (r t : Bool) → Matches (λ (a b : ℕ) (u : Bool). Decides u (a ≡ b)) xs ys r → r ≡ t → bytes_eq xs ys ≡ t
-tested xs ys r t m e = sym (same xs ys r (slice_eq-Decides Decides-eqb xs ys r m)) ∙ e
-  where
-    same : (xs ys : List ℕ) (r : Bool) → Decides r (xs ≡ ys) → r ≡ bytes_eq xs ys
-    same xs ys r h = search (rules, bytes_eq-Decides)
-
-abbrev picked : Bool → Bool → Bool → Option Kind
-picked node chain step = cond node (Some kind.Node) (cond chain (Some kind.Chain) (cond step (Some kind.Step) None))
-
-pub kind_by_tests : (word : List ℕ) {node chain step : Bool} → bytes_eq word (codes "node") ≡ node → bytes_eq word (codes "chain") ≡ chain → bytes_eq word (codes "step") ≡ step → picked node chain step ≡ kind_named word
-kind_by_tests word {node} {chain} {step} e f g =
-    sym (ap (λ t. picked t (bytes_eq word (codes "chain")) (bytes_eq word (codes "step"))) e ∙ ap (λ t. picked node t (bytes_eq word (codes "step"))) f ∙ ap (λ t. picked node chain t) g)
 
 pub word_here : (line : Bor (List ℕ)) (c : Cursor) (word : List ℕ) → c.line ≡ line → c.field ≡ 0 → word ≡ at_place (all_fields c) (c.field + 1) → word ≡ at_place (fields_of line.now) 1
 word_here line c word same none e =

@@ -4,24 +4,24 @@ use Rattle.lines.specs.Numbers.{digits_answer}
 use Rattle.lines.proofs.Numerals.{digit_more, digit_none, at_most_nine, small_more, still_small}
 use Rattle.lines.proofs.numbers.digits_in.Goals as goal
 
-pub returns-then-not-is-ascii-digit : goal.returns-then-not-is-ascii-digit
-returns-then-not-is-ascii-digit c =
-    digit_none c.args.digits.now c.loop-byte.n c.loop-byte.byte-index c.loop-byte-test.true (sym c.if-not-is-ascii-digit.ensures.value)
+pub returns-then-not-is_ascii_digit : goal.returns-then-not-is_ascii_digit
+returns-then-not-is_ascii_digit c =
+    digit_none c.args.digits.now c.loop-byte.n c.loop-byte.byte-index c.loop-byte-test.true (sym c.if-not-is_ascii_digit.ensures.value)
     ∙ c.loop-byte.invariant.0
 
-pub overflow-mul-n : goal.overflow-mul-n
-overflow-mul-n c = omega (arith, still_small c.loop-byte.n c.loop-byte.byte-index c.loop-byte.invariant.1 (omega arith))
+pub overflow_mul-n : goal.overflow_mul-n
+overflow_mul-n c = omega (arith, still_small c.loop-byte.n c.loop-byte.byte-index c.loop-byte.invariant.1 (omega arith))
 
 nine : (c : goal.After-from) → c.from.result ≤ 9
-nine c = omega (arith, c.from.ensures, at_most_nine (get_or c.args.digits.now c.loop-byte.byte-index 0) (sym c.if-not-is-ascii-digit.ensures.value))
+nine c = omega (arith, c.from.ensures, at_most_nine (get_or c.args.digits.now c.loop-byte.byte-index 0) (sym c.if-not-is_ascii_digit.ensures.value))
 
-pub overflow-add-n : goal.overflow-add-n
-overflow-add-n c = omega (arith, nine c, still_small c.loop-byte.n c.loop-byte.byte-index c.loop-byte.invariant.1 (omega arith))
+pub overflow_add-n : goal.overflow_add-n
+overflow_add-n c = omega (arith, nine c, still_small c.loop-byte.n c.loop-byte.byte-index c.loop-byte.invariant.1 (omega arith))
 
 pub loop-byte-preserved : goal.loop-byte-preserved
 loop-byte-preserved c = (
   digit_more c.args.digits.now c.loop-byte.n c.loop-byte.byte-index c.from.result c.loop-byte-test.true
-      (sym c.if-not-is-ascii-digit.ensures.value) c.from.ensures
+      (sym c.if-not-is_ascii_digit.ensures.value) c.from.ensures
       ∙ c.loop-byte.invariant.0,
   small_more c.loop-byte.n c.loop-byte.byte-index c.from.result c.loop-byte.invariant.1 (nine c),
 )
