@@ -1,7 +1,7 @@
 -- A chain that is complete is entered behind the others.
 use Rattle.std.proofs.Common.{◌≡◌, ℕ, ◌+◌, ◌≤◌, Bool, true, false, not, ◌||◌, eqb, leb, List, [], ◌∷◌, ◌++◌, map, length, take, Some, None, Ok, Option, sym, refl, ap, ◌∙◌, ap₂, arith}
 use Rattle.std.proofs.lemmas.List.{length-append, length-map, map-append, take_all}
-use Rattle.std.proofs.lemmas.Bool.{not_true, not_from_false, leb-true, le-leb, and_from}
+use Rattle.std.proofs.lemmas.Bool.{not-true, not_from_false, leb-true, le-leb, and_from}
 use Rattle.records.specs.Ranges.{within, chain_fits}
 use Rattle.records.proofs.InRange.{within_true}
 use Rattle.law.specs.declared.answers.Answer.{Answer}
@@ -76,7 +76,7 @@ room_passed cs id n h =
       few = count.1;
       few_chains = omega (arith, leb-true _ _ b, length-map cs held_of);
       few_steps = omega (arith, leb-true _ _ c, rows_are_steps cs);
-      new_id = sym (holds_has cs id) ∙ not_true _ d;
+      new_id = sym (holds_has cs id) ∙ not-true _ d;
     }
 
 need_passes : (b : Bool) (why : Refusal) (rest : Answer) → b ≡ true → rest ≡ Done → need b why rest ≡ Done
