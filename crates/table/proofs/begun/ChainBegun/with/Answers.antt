@@ -8,4 +8,4 @@ pub returns : goal.returns
 returns c =
     let b = c.args.self in
     let P : List StepFields → Begun = λ steps. record { line = b.line; fields = b.chain.fields; steps = steps } in
-    ap P (kept_more b.steps b.count c.args.step b.room c.if-self-ge-MOST-KEPT.false)
+    ap P (kept_more b.steps b.count c.args.step b.room c.if-self-ge-MOST_KEPT.false)
