@@ -1,5 +1,7 @@
 // A second response-time analyser, written from the documents alone (docs/MODEL.md, docs/PLAN.md, docs/TEXT.md).
 // It shares no code with the first: windows are scanned tick by tick, jobs are counted release by release, and chains own their steps.
+#![tactic(auto)]
+
 pub mod fields;
 pub mod node;
 pub mod panel;
