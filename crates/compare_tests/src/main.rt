@@ -1,4 +1,6 @@
 // Compares the analyser with the second one (crate oracle_tests) on random tables and random runs of calls.
+#![tactic(auto)]
+
 mod calls;
 mod chosen;
 mod damage;

@@ -1,4 +1,6 @@
 // The earliest_deadline rule and mixtures on examples, through the plan where chains are meant.
+#![tactic(auto)]
+
 #[cfg(test)]
 mod tests {
     use edf::{EarliestDeadline, jobs_due};

@@ -1,4 +1,6 @@
 // The fixed_priority rule on examples.
+#![tactic(auto)]
+
 #[cfg(test)]
 mod tests {
     use fixed::FixedPriority;

@@ -1,4 +1,6 @@
 // Lines on examples.
+#![tactic(auto)]
+
 #[cfg(test)]
 mod tests {
     use lines::{Fault, Line, LineFault, TextCursor, check_text, number_in, read_line};

@@ -1,4 +1,6 @@
 // What a plan answers on examples: limits, refusals and their order, and what is kept from solve to solve.
+#![tactic(auto)]
+
 #[cfg(test)]
 mod changes;
 #[cfg(test)]

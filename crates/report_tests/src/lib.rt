@@ -1,4 +1,6 @@
 // Reports on texts.
+#![tactic(auto)]
+
 #[cfg(test)]
 mod buffers;
 #[cfg(test)]
