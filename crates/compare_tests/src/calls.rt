@@ -47,9 +47,9 @@ fn spoil(dice: &mut Dice, work: &mut Work) {
 }
 
 // No step, or more than 16 of them.
-fn miscount(heap: Global, dice: &mut Dice, work: &mut Work) -> Result<(), AllocError> {
+fn miscount(alloc: Global, dice: &mut Dice, work: &mut Work) -> Result<(), AllocError> {
     let first = work.steps.get(0).copied();
-    work.steps = Vec::new(heap);
+    work.steps = Vec::new(alloc);
     if let Some(step) = first
         && dice.percent(50)
     {
@@ -60,12 +60,12 @@ fn miscount(heap: Global, dice: &mut Dice, work: &mut Work) -> Result<(), AllocE
     Ok(())
 }
 
-fn add_call(heap: Global, dice: &mut Dice, scale: &Scale) -> Result<Call, AllocError> {
+fn add_call(alloc: Global, dice: &mut Dice, scale: &Scale) -> Result<Call, AllocError> {
     let id = dice.between(1, 90);
-    let mut work = random_chain(heap, dice, scale, id)?;
+    let mut work = random_chain(alloc, dice, scale, id)?;
     let odd = dice.below(100);
     if odd < 6 {
-        miscount(heap, dice, &mut work)?;
+        miscount(alloc, dice, &mut work)?;
     }
     if odd >= 3 && odd < 12 {
         spoil(dice, &mut work);
@@ -128,7 +128,7 @@ fn later_call(dice: &mut Dice, scale: &Scale, at: &Standing) -> Call {
 
 // Any call. After a refused solve chains are mostly dropped.
 pub fn random_call(
-    heap: Global,
+    alloc: Global,
     dice: &mut Dice,
     scale: &Scale,
     at: &Standing,
@@ -140,7 +140,7 @@ pub fn random_call(
     }
     let alone = at.held.is_empty() && dice.percent(80);
     if alone || dice.percent(at.adds) {
-        return add_call(heap, dice, scale);
+        return add_call(alloc, dice, scale);
     }
     Ok(later_call(dice, scale, at))
 }
@@ -191,24 +191,24 @@ impl Standing {
 }
 
 // What the second analyser answers.
-pub fn answer_of(heap: Global, panel: &mut Panel, call: &Call) -> Result<Answer, AllocError> {
+pub fn answer_of(alloc: Global, panel: &mut Panel, call: &Call) -> Result<Answer, AllocError> {
     match call {
-        Call::Add(work) => panel.add(heap, work.chain, work.steps.as_slice()),
+        Call::Add(work) => panel.add(alloc, work.chain, work.steps.as_slice()),
         Call::DropChain { id } => Ok(panel.drop_chain(*id)),
         Call::Recost { id, step, cost } => Ok(panel.recost(*id, *step, *cost)),
-        Call::Solve => panel.solve(heap),
+        Call::Solve => panel.solve(alloc),
         Call::Ask { id, step } => Ok(panel.ask(*id, *step)),
     }
 }
 
 // A call in words, for a difference.
-pub fn words_of(heap: Global, call: &Call) -> Result<Vec<u8>, AllocError> {
+pub fn words_of(alloc: Global, call: &Call) -> Result<Vec<u8>, AllocError> {
     let line = match call {
-        Call::Add(work) => return work.text(heap),
-        Call::DropChain { id } => format!(in heap; "drop,{id}\n")?,
-        Call::Recost { id, step, cost } => format!(in heap; "recost,{id},{step},{cost}\n")?,
-        Call::Solve => format!(in heap; "solve\n")?,
-        Call::Ask { id, step } => format!(in heap; "ask,{id},{step}\n")?,
+        Call::Add(work) => return work.text(alloc),
+        Call::DropChain { id } => format!(in alloc; "drop,{id}\n")?,
+        Call::Recost { id, step, cost } => format!(in alloc; "recost,{id},{step},{cost}\n")?,
+        Call::Solve => format!(in alloc; "solve\n")?,
+        Call::Ask { id, step } => format!(in alloc; "ask,{id},{step}\n")?,
     };
-    line.as_bytes().to_vec(heap)
+    line.as_bytes().to_vec(alloc)
 }

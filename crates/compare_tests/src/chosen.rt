@@ -8,9 +8,9 @@ use std::io;
 
 // Both analysers print these bytes of this text.
 fn prints(rt: &HostRuntime, tally: &mut Tally, input: &[u8], bytes: &[u8]) -> io::Result<()> {
-    let heap = rt.alloc();
-    let oracle = text::printed(heap, input)?;
-    let product = product::printed(heap, input, product::ROOM)?;
+    let alloc = rt.alloc();
+    let oracle = text::printed(alloc, input)?;
+    let product = product::printed(alloc, input, product::ROOM)?;
     tally.count_text(oracle.as_slice());
     if product.as_slice() != bytes || oracle.as_slice() != bytes {
         tally.differ(rt, input, product.as_slice(), oracle.as_slice())?;
@@ -19,10 +19,10 @@ fn prints(rt: &HostRuntime, tally: &mut Tally, input: &[u8], bytes: &[u8]) -> io
 }
 
 // So many chains of so many steps each, on one node.
-fn many(heap: Global, chains: u64, steps: u64) -> Result<Vec<u8>, AllocError> {
-    let mut input = b"node,1,P\n".to_vec(heap)?;
+fn many(alloc: Global, chains: u64, steps: u64) -> Result<Vec<u8>, AllocError> {
+    let mut input = b"node,1,P\n".to_vec(alloc)?;
     for id in 1..=chains {
-        let line = format!(in heap; "chain,{id},1000,1000,0\n")?;
+        let line = format!(in alloc; "chain,{id},1000,1000,0\n")?;
         input.extend_from_slice(line.as_bytes())?;
         put_steps(&mut input, steps)?;
     }
@@ -64,7 +64,7 @@ fn later_lines(rt: &HostRuntime, tally: &mut Tally, line: &[u8], bytes: &[u8]) -
 }
 
 fn chains(rt: &HostRuntime, tally: &mut Tally) -> io::Result<()> {
-    let heap = rt.alloc();
+    let alloc = rt.alloc();
     later_lines(rt, tally, b"step,1,0,5,0,0,1\n", b"refused,1,3,3\n")?;
     later_lines(rt, tally, b"node,2,E\n", b"refused,18,3,0\n")?;
     later_lines(rt, tally, b"step,2,1,5,0,0,1\n", b"refused,19,3,2\n")?;
@@ -73,19 +73,24 @@ fn chains(rt: &HostRuntime, tally: &mut Tally) -> io::Result<()> {
     prints(
         rt,
         tally,
-        many(heap, 17, 1)?.as_slice(),
+        many(alloc, 17, 1)?.as_slice(),
         b"refused,3,34,0\n",
     )?;
     prints(
         rt,
         tally,
-        many(heap, 5, 13)?.as_slice(),
+        many(alloc, 5, 13)?.as_slice(),
         b"refused,4,58,0\n",
     )?;
-    prints(rt, tally, many(heap, 1, 17)?.as_slice(), b"refused,2,2,0\n")?;
+    prints(
+        rt,
+        tally,
+        many(alloc, 1, 17)?.as_slice(),
+        b"refused,2,2,0\n",
+    )?;
     let over: &[u8] = b"node,1,E\nchain,1,10,10,1\nstep,1,10,10,0,0,1\n";
     prints(rt, tally, over, b"refused,10,1\n")?;
-    let long = vec![in heap; 10u8; 32_769]?;
+    let long = vec![in alloc; 10u8; 32_769]?;
     prints(rt, tally, long.as_slice(), b"refused,11,0,0\n")
 }
 

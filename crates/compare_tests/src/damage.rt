@@ -7,12 +7,12 @@ use std::alloc::{AllocError, Global};
 const COMMA: u8 = 44;
 
 // The fields of a line.
-fn fields_of(heap: Global, line: &[u8]) -> Result<Vec<Vec<u8>>, AllocError> {
-    let mut fields = Vec::new(heap);
-    let mut field: Vec<u8> = Vec::new(heap);
+fn fields_of(alloc: Global, line: &[u8]) -> Result<Vec<Vec<u8>>, AllocError> {
+    let mut fields = Vec::new(alloc);
+    let mut field: Vec<u8> = Vec::new(alloc);
     for byte in line.iter() {
         if *byte == COMMA {
-            fields.push(std::mem::replace(&mut field, Vec::new(heap)))?;
+            fields.push(std::mem::replace(&mut field, Vec::new(alloc)))?;
         } else {
             field.push(*byte)?;
         }
@@ -22,8 +22,8 @@ fn fields_of(heap: Global, line: &[u8]) -> Result<Vec<Vec<u8>>, AllocError> {
 }
 
 // The line of these fields.
-fn line_of(heap: Global, fields: &Vec<Vec<u8>>) -> Result<Vec<u8>, AllocError> {
-    let mut line: Vec<u8> = Vec::new(heap);
+fn line_of(alloc: Global, fields: &Vec<Vec<u8>>) -> Result<Vec<u8>, AllocError> {
+    let mut line: Vec<u8> = Vec::new(alloc);
     let mut first = true;
     for field in fields.iter() {
         if !first {
@@ -35,12 +35,12 @@ fn line_of(heap: Global, fields: &Vec<Vec<u8>>) -> Result<Vec<u8>, AllocError> {
     Ok(line)
 }
 
-fn bytes(heap: Global, words: &[u8]) -> Result<Vec<u8>, AllocError> {
-    words.to_vec(heap)
+fn bytes(alloc: Global, words: &[u8]) -> Result<Vec<u8>, AllocError> {
+    words.to_vec(alloc)
 }
 
 // A number that is out of range in some field, or at the edge of its range.
-fn odd_number(heap: Global, dice: &mut Dice, near: bool) -> Result<Vec<u8>, AllocError> {
+fn odd_number(alloc: Global, dice: &mut Dice, near: bool) -> Result<Vec<u8>, AllocError> {
     let small = [0, 1, 8, 9, 255, 256, 1_000_001, 9_999_999];
     let large = [65_535, 65_536, 1_000_000];
     let number = if near || dice.percent(70) {
@@ -48,12 +48,12 @@ fn odd_number(heap: Global, dice: &mut Dice, near: bool) -> Result<Vec<u8>, Allo
     } else {
         dice.of(&large)
     };
-    let words = format!(in heap; "{number}")?;
-    bytes(heap, words.as_bytes())
+    let words = format!(in alloc; "{number}")?;
+    bytes(alloc, words.as_bytes())
 }
 
 // A word that is no number and no letter.
-fn odd_word(heap: Global, dice: &mut Dice) -> Result<Vec<u8>, AllocError> {
+fn odd_word(alloc: Global, dice: &mut Dice) -> Result<Vec<u8>, AllocError> {
     let words: &[u8] = match dice.below(20) {
         0 => b"e",
         1 => b"p",
@@ -76,11 +76,11 @@ fn odd_word(heap: Global, dice: &mut Dice) -> Result<Vec<u8>, AllocError> {
         18 => b":",
         _ => b"1e3",
     };
-    bytes(heap, words)
+    bytes(alloc, words)
 }
 
 // A word in place of the kind of a line.
-fn odd_kind(heap: Global, dice: &mut Dice) -> Result<Vec<u8>, AllocError> {
+fn odd_kind(alloc: Global, dice: &mut Dice) -> Result<Vec<u8>, AllocError> {
     let words: &[u8] = match dice.below(10) {
         0 => b"nodes",
         1 => b"Chain",
@@ -93,18 +93,18 @@ fn odd_kind(heap: Global, dice: &mut Dice) -> Result<Vec<u8>, AllocError> {
         8 => b"chain ",
         _ => b"#",
     };
-    bytes(heap, words)
+    bytes(alloc, words)
 }
 
 // The field with a zero in front, or eight digits long.
-fn odd_digits(heap: Global, dice: &mut Dice, field: &Vec<u8>) -> Result<Vec<u8>, AllocError> {
-    let mut longer: Vec<u8> = Vec::new(heap);
+fn odd_digits(alloc: Global, dice: &mut Dice, field: &Vec<u8>) -> Result<Vec<u8>, AllocError> {
+    let mut longer: Vec<u8> = Vec::new(alloc);
     if dice.percent(60) {
         longer.push(b'0')?;
         longer.extend_from_slice(field.as_slice())?;
     } else {
         let number = dice.between(10_000_000, 99_999_999);
-        let words = format!(in heap; "{number}")?;
+        let words = format!(in alloc; "{number}")?;
         longer.extend_from_slice(words.as_bytes())?;
     }
     Ok(longer)
@@ -112,7 +112,7 @@ fn odd_digits(heap: Global, dice: &mut Dice, field: &Vec<u8>) -> Result<Vec<u8>,
 
 // Another field in place of one of these.
 fn change_field(
-    heap: Global,
+    alloc: Global,
     dice: &mut Dice,
     fields: &mut Vec<Vec<u8>>,
 ) -> Result<(), AllocError> {
@@ -123,16 +123,16 @@ fn change_field(
     let kind = dice.below(10);
     if kind == 0 {
         if let Some(first) = fields.get_mut(0) {
-            *first = odd_kind(heap, dice)?;
+            *first = odd_kind(alloc, dice)?;
         }
         return Ok(());
     }
     if let Some(field) = fields.get_mut(at) {
         *field = match kind {
-            1 | 2 => Vec::new(heap),
-            3 | 4 => odd_digits(heap, dice, field)?,
-            5 | 6 => odd_word(heap, dice)?,
-            _ => odd_number(heap, dice, near)?,
+            1 | 2 => Vec::new(alloc),
+            3 | 4 => odd_digits(alloc, dice, field)?,
+            5 | 6 => odd_word(alloc, dice)?,
+            _ => odd_number(alloc, dice, near)?,
         };
     }
     Ok(())
@@ -140,30 +140,30 @@ fn change_field(
 
 // A field too many or too few.
 fn change_count(
-    heap: Global,
+    alloc: Global,
     dice: &mut Dice,
     fields: &mut Vec<Vec<u8>>,
 ) -> Result<(), AllocError> {
     if dice.percent(50) {
         let _ = fields.pop();
     } else {
-        let more = odd_number(heap, dice, false)?;
+        let more = odd_number(alloc, dice, false)?;
         fields.push(more)?;
     }
     Ok(())
 }
 
 // One line with another field, or another count of fields.
-fn change_line(heap: Global, dice: &mut Dice, lines: &mut Vec<Vec<u8>>) -> Result<(), AllocError> {
+fn change_line(alloc: Global, dice: &mut Dice, lines: &mut Vec<Vec<u8>>) -> Result<(), AllocError> {
     let at = dice.place(lines.len());
     if let Some(line) = lines.get_mut(at) {
-        let mut fields = fields_of(heap, line.as_slice())?;
+        let mut fields = fields_of(alloc, line.as_slice())?;
         if dice.percent(85) {
-            change_field(heap, dice, &mut fields)?;
+            change_field(alloc, dice, &mut fields)?;
         } else {
-            change_count(heap, dice, &mut fields)?;
+            change_count(alloc, dice, &mut fields)?;
         }
-        *line = line_of(heap, &fields)?;
+        *line = line_of(alloc, &fields)?;
     }
     Ok(())
 }
@@ -184,13 +184,13 @@ fn take_line_out(dice: &mut Dice, lines: &mut Vec<Vec<u8>>) {
 }
 
 // A line that some text could have.
-fn some_line(heap: Global, dice: &mut Dice) -> Result<Vec<u8>, AllocError> {
+fn some_line(alloc: Global, dice: &mut Dice) -> Result<Vec<u8>, AllocError> {
     match dice.below(5) {
-        0 => node_line(heap, dice.between(1, 8), Letter::E),
-        1 => node_line(heap, dice.between(1, 8), Letter::P),
-        2 => bytes(heap, b"step,1,1,5,0,0,1"),
-        3 => bytes(heap, b"chain,1,10,10,0"),
-        _ => Ok(Vec::new(heap)),
+        0 => node_line(alloc, dice.between(1, 8), Letter::E),
+        1 => node_line(alloc, dice.between(1, 8), Letter::P),
+        2 => bytes(alloc, b"step,1,1,5,0,0,1"),
+        3 => bytes(alloc, b"chain,1,10,10,0"),
+        _ => Ok(Vec::new(alloc)),
     }
 }
 
@@ -205,18 +205,18 @@ fn put_line_in(dice: &mut Dice, lines: &mut Vec<Vec<u8>>, line: Vec<u8>) -> Resu
     Ok(())
 }
 
-fn double_line(heap: Global, dice: &mut Dice, lines: &mut Vec<Vec<u8>>) -> Result<(), AllocError> {
+fn double_line(alloc: Global, dice: &mut Dice, lines: &mut Vec<Vec<u8>>) -> Result<(), AllocError> {
     let at = dice.place(lines.len());
     let again = match lines.get(at) {
-        Some(line) => bytes(heap, line.as_slice())?,
-        None => Vec::new(heap),
+        Some(line) => bytes(alloc, line.as_slice())?,
+        None => Vec::new(alloc),
     };
     put_line_in(dice, lines, again)
 }
 
 // One damage to the lines of a text.
 pub fn damage_lines(
-    heap: Global,
+    alloc: Global,
     dice: &mut Dice,
     lines: &mut Vec<Vec<u8>>,
 ) -> Result<(), AllocError> {
@@ -229,12 +229,12 @@ pub fn damage_lines(
             take_line_out(dice, lines);
             Ok(())
         }
-        2 | 3 => double_line(heap, dice, lines),
+        2 | 3 => double_line(alloc, dice, lines),
         4 | 5 => {
-            let line = some_line(heap, dice)?;
+            let line = some_line(alloc, dice)?;
             put_line_in(dice, lines, line)
         }
-        _ => change_line(heap, dice, lines),
+        _ => change_line(alloc, dice, lines),
     }
 }
 
@@ -269,8 +269,8 @@ fn change_byte(dice: &mut Dice, text: &mut Vec<u8>) -> Result<(), AllocError> {
 }
 
 // The text with a carriage return before each line feed.
-fn with_returns(heap: Global, text: &Vec<u8>) -> Result<Vec<u8>, AllocError> {
-    let mut other = Vec::new(heap);
+fn with_returns(alloc: Global, text: &Vec<u8>) -> Result<Vec<u8>, AllocError> {
+    let mut other = Vec::new(alloc);
     for byte in text.iter() {
         if *byte == 10 {
             other.push(b'\r')?;
@@ -281,8 +281,8 @@ fn with_returns(heap: Global, text: &Vec<u8>) -> Result<Vec<u8>, AllocError> {
 }
 
 // The text over and over again, up to this many bytes.
-fn filled(heap: Global, text: &Vec<u8>, len: usize) -> Result<Vec<u8>, AllocError> {
-    let mut other: Vec<u8> = Vec::new(heap);
+fn filled(alloc: Global, text: &Vec<u8>, len: usize) -> Result<Vec<u8>, AllocError> {
+    let mut other: Vec<u8> = Vec::new(alloc);
     for k in 0..len {
         let at = if text.is_empty() { 0 } else { k % text.len() };
         other.push(text.get(at).copied().unwrap_or(10))?;
@@ -291,14 +291,14 @@ fn filled(heap: Global, text: &Vec<u8>, len: usize) -> Result<Vec<u8>, AllocErro
 }
 
 // One damage to the bytes of a text.
-pub fn damage_bytes(heap: Global, dice: &mut Dice, text: &mut Vec<u8>) -> Result<(), AllocError> {
+pub fn damage_bytes(alloc: Global, dice: &mut Dice, text: &mut Vec<u8>) -> Result<(), AllocError> {
     match dice.below(40) {
         0 => {
-            *text = with_returns(heap, text)?;
+            *text = with_returns(alloc, text)?;
         }
         1 => {
             let len = dice.of(&[32_767, 32_768, 32_769, 40_000]) as usize;
-            *text = filled(heap, text, len)?;
+            *text = filled(alloc, text, len)?;
         }
         2 | 3 | 4 | 5 => {
             let _ = text.pop();

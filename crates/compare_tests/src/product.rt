@@ -87,8 +87,8 @@ fn chain_of(work: &Work) -> Result<Chain, RecordFault> {
     })
 }
 
-fn steps_of(heap: Global, work: &Work) -> Result<Vec<records::StepFields>, AllocError> {
-    let mut steps = Vec::new(heap);
+fn steps_of(alloc: Global, work: &Work) -> Result<Vec<records::StepFields>, AllocError> {
+    let mut steps = Vec::new(alloc);
     for step in work.steps.iter() {
         steps.push(records::StepFields {
             node: small(step.node),
@@ -104,8 +104,8 @@ fn steps_of(heap: Global, work: &Work) -> Result<Vec<records::StepFields>, Alloc
     Ok(steps)
 }
 
-fn add(heap: Global, plan: &mut ProductPlan, work: &Work) -> Result<Answer, AllocError> {
-    let steps = steps_of(heap, work)?;
+fn add(alloc: Global, plan: &mut ProductPlan, work: &Work) -> Result<Answer, AllocError> {
+    let steps = steps_of(alloc, work)?;
     match chain_of(work) {
         Ok(chain) => Ok(done(plan.add(chain, steps.as_slice()))),
         Err(fault) => Ok(refused(&Refusal::Field(fault))),
@@ -113,9 +113,9 @@ fn add(heap: Global, plan: &mut ProductPlan, work: &Work) -> Result<Answer, Allo
 }
 
 // Makes a call.
-pub fn perform(heap: Global, plan: &mut ProductPlan, call: &Call) -> Result<Answer, AllocError> {
+pub fn perform(alloc: Global, plan: &mut ProductPlan, call: &Call) -> Result<Answer, AllocError> {
     match call {
-        Call::Add(work) => add(heap, plan, work),
+        Call::Add(work) => add(alloc, plan, work),
         Call::DropChain { id } => Ok(done(plan.drop_chain(small(*id)))),
         Call::Recost { id, step, cost } => {
             Ok(done(plan.recost(small(*id), small(*step), small(*cost))))
@@ -126,8 +126,8 @@ pub fn perform(heap: Global, plan: &mut ProductPlan, call: &Call) -> Result<Answ
 }
 
 // The bytes of the listing, or its refusal.
-pub fn listing(heap: Global, plan: &ProductPlan) -> Result<Vec<u8>, AllocError> {
-    let mut bytes = vec![in heap; 7u8; ROOM]?;
+pub fn listing(alloc: Global, plan: &ProductPlan) -> Result<Vec<u8>, AllocError> {
+    let mut bytes = vec![in alloc; 7u8; ROOM]?;
     match plan.listing(bytes.as_mut_slice()) {
         Ok(len) => {
             bytes.truncate(len);
@@ -135,8 +135,8 @@ pub fn listing(heap: Global, plan: &ProductPlan) -> Result<Vec<u8>, AllocError> 
         }
         Err(why) => {
             let number = why.number();
-            let line = format!(in heap; "refused,{number}\n")?;
-            line.as_bytes().to_vec(heap)
+            let line = format!(in alloc; "refused,{number}\n")?;
+            line.as_bytes().to_vec(alloc)
         }
     }
 }
@@ -153,24 +153,24 @@ fn verdict_fits(verdict: &Verdict, bytes: &[u8]) -> bool {
 }
 
 // What is printed of a text, into a buffer of this room. Empty if it is refused, or if its verdict is another.
-pub fn printed(heap: Global, text: &[u8], room: usize) -> Result<Vec<u8>, AllocError> {
-    let mut bytes = vec![in heap; 7u8; room]?;
+pub fn printed(alloc: Global, text: &[u8], room: usize) -> Result<Vec<u8>, AllocError> {
+    let mut bytes = vec![in alloc; 7u8; room]?;
     match report::report(text, bytes.as_mut_slice()) {
         Ok(report) => {
             bytes.truncate(report.len);
             if verdict_fits(&report.verdict, bytes.as_slice()) {
                 Ok(bytes)
             } else {
-                Ok(Vec::new(heap))
+                Ok(Vec::new(alloc))
             }
         }
-        Err(_) => Ok(Vec::new(heap)),
+        Err(_) => Ok(Vec::new(alloc)),
     }
 }
 
 // Whether a buffer one byte too short is refused with 20 and left as it was.
-pub fn refuses_short(heap: Global, text: &[u8], len: usize) -> Result<bool, AllocError> {
-    let mut short = vec![in heap; 7u8; len.saturating_sub(1)]?;
+pub fn refuses_short(alloc: Global, text: &[u8], len: usize) -> Result<bool, AllocError> {
+    let mut short = vec![in alloc; 7u8; len.saturating_sub(1)]?;
     let refused = match report::report(text, short.as_mut_slice()) {
         Ok(_) => false,
         Err(why) => why.number() == 20,

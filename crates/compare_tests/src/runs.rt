@@ -19,8 +19,8 @@ struct Pair {
     words: Vec<u8>,
 }
 
-fn node_letters(heap: Global, letters: &Vec<Letter>) -> Result<Vec<NodeLetter>, AllocError> {
-    let mut given = Vec::new(heap);
+fn node_letters(alloc: Global, letters: &Vec<Letter>) -> Result<Vec<NodeLetter>, AllocError> {
+    let mut given = Vec::new(alloc);
     let mut node: u64 = 0;
     for letter in letters.iter() {
         node = node.saturating_add(1);
@@ -83,19 +83,19 @@ fn filling_script(dice: &mut Dice) -> Script {
 }
 
 // The second analyser's listing, or its refusal.
-fn listing_of(heap: Global, panel: &Panel) -> Result<Vec<u8>, AllocError> {
-    match panel.listing(heap)? {
+fn listing_of(alloc: Global, panel: &Panel) -> Result<Vec<u8>, AllocError> {
+    match panel.listing(alloc)? {
         Some(bytes) => Ok(bytes),
-        None => b"refused,9\n".to_vec(heap),
+        None => b"refused,9\n".to_vec(alloc),
     }
 }
 
 impl Pair {
     // Compares the listings, with refusal 9 where no solve stands.
     fn compare_listing(&mut self, rt: &HostRuntime, tally: &mut Tally) -> io::Result<bool> {
-        let heap = rt.alloc();
-        let product = product::listing(heap, &self.plan)?;
-        let oracle = listing_of(heap, &self.panel)?;
+        let alloc = rt.alloc();
+        let product = product::listing(alloc, &self.plan)?;
+        let oracle = listing_of(alloc, &self.panel)?;
         tally.call_listings = tally.call_listings.saturating_add(1);
         let same = product == oracle;
         if !same {
@@ -112,15 +112,15 @@ impl Pair {
         tally: &mut Tally,
         call: &Call,
     ) -> io::Result<bool> {
-        let heap = rt.alloc();
+        let alloc = rt.alloc();
         self.words
-            .extend_from_slice(words_of(heap, call)?.as_slice())?;
-        let product = product::perform(heap, &mut self.plan, call)?;
-        let oracle = answer_of(heap, &mut self.panel, call)?;
+            .extend_from_slice(words_of(alloc, call)?.as_slice())?;
+        let product = product::perform(alloc, &mut self.plan, call)?;
+        let oracle = answer_of(alloc, &mut self.panel, call)?;
         tally.count_answer(&oracle);
         if product != oracle {
-            let one = format!(in heap; "{product:?}\n")?;
-            let other = format!(in heap; "{oracle:?}\n")?;
+            let one = format!(in alloc; "{product:?}\n")?;
+            let other = format!(in alloc; "{oracle:?}\n")?;
             tally.differ(rt, self.words.as_slice(), one.as_bytes(), other.as_bytes())?;
             return Ok(false);
         }
@@ -157,27 +157,27 @@ pub fn one_run(
     tally: &mut Tally,
     filling: bool,
 ) -> io::Result<()> {
-    let heap = rt.alloc();
+    let alloc = rt.alloc();
     let script = if filling {
         filling_script(dice)
     } else {
         usual_script(dice)
     };
     let earliest = mixture(dice);
-    let letters = random_letters(heap, dice, script.scale.nodes, earliest)?;
+    let letters = random_letters(alloc, dice, script.scale.nodes, earliest)?;
     let Ok(plan) = product::open(&letters) else {
         return tally.differ(rt, b"open\n", b"refused\n", b"done\n");
     };
     let mut pair = Pair {
         plan,
-        panel: Panel::new(heap, node_letters(heap, &letters)?),
+        panel: Panel::new(alloc, node_letters(alloc, &letters)?),
         at: Standing {
             adds: script.adds,
-            held: Vec::new(heap),
+            held: Vec::new(alloc),
             solved: false,
             stuck: false,
         },
-        words: Vec::new(heap),
+        words: Vec::new(alloc),
     };
     tally.runs = tally.runs.saturating_add(1);
     pair.play(rt, dice, tally, &script)

@@ -71,12 +71,12 @@ pub fn mixture(dice: &mut Dice) -> u64 {
 
 // The letters of so many nodes, as often E as `earliest` says.
 pub fn random_letters(
-    heap: Global,
+    alloc: Global,
     dice: &mut Dice,
     nodes: u64,
     earliest: u64,
 ) -> Result<Vec<Letter>, AllocError> {
-    let mut given = Vec::new(heap);
+    let mut given = Vec::new(alloc);
     for _ in 0..nodes {
         given.push(if dice.percent(earliest) {
             Letter::E
@@ -112,7 +112,7 @@ fn random_step(dice: &mut Dice, scale: &Scale, period: u64, share: u64) -> StepF
 
 // A chain of 1 to so many steps.
 pub fn random_chain(
-    heap: Global,
+    alloc: Global,
     dice: &mut Dice,
     scale: &Scale,
     id: u64,
@@ -123,7 +123,7 @@ pub fn random_chain(
     let share = scale.load.saturating_mul(10).saturating_mul(scale.nodes) / rows.max(1);
     let reach = dice.between(1, scale.slack.max(1));
     let late = dice.of(&[1, 1, 1, 3]);
-    let mut steps = Vec::new(heap);
+    let mut steps = Vec::new(alloc);
     for _ in 0..count {
         steps.push(random_step(dice, scale, period, share.min(1000)))?;
     }
@@ -141,19 +141,19 @@ pub fn random_chain(
 
 // A table of this scale; the ids are different.
 pub fn random_sheet(
-    heap: Global,
+    alloc: Global,
     dice: &mut Dice,
     scale: &Scale,
     earliest: u64,
 ) -> Result<Sheet, AllocError> {
-    let mut works = Vec::new(heap);
+    let mut works = Vec::new(alloc);
     let mut id = dice.of(&[0, 6, 65_000]);
     for _ in 0..scale.chains {
         id = id.saturating_add(dice.between(1, 9));
-        works.push(random_chain(heap, dice, scale, id)?)?;
+        works.push(random_chain(alloc, dice, scale, id)?)?;
     }
     Ok(Sheet {
-        letters: random_letters(heap, dice, scale.nodes, earliest)?,
+        letters: random_letters(alloc, dice, scale.nodes, earliest)?,
         works,
     })
 }
@@ -177,10 +177,10 @@ impl Work {
     }
 
     // The lines of this chain and of its steps.
-    fn lines(&self, heap: Global, lines: &mut Vec<Vec<u8>>) -> Result<(), AllocError> {
-        lines.push(chain_line(heap, &self.chain)?)?;
+    fn lines(&self, alloc: Global, lines: &mut Vec<Vec<u8>>) -> Result<(), AllocError> {
+        lines.push(chain_line(alloc, &self.chain)?)?;
         for step in self.steps.iter() {
-            lines.push(step_line(heap, step)?)?;
+            lines.push(step_line(alloc, step)?)?;
         }
         Ok(())
     }
@@ -188,10 +188,10 @@ impl Work {
 
 impl Work {
     // The chain as it stands in a text.
-    pub fn text(&self, heap: Global) -> Result<Vec<u8>, AllocError> {
-        let mut lines = Vec::new(heap);
-        self.lines(heap, &mut lines)?;
-        text_of(heap, &lines)
+    pub fn text(&self, alloc: Global) -> Result<Vec<u8>, AllocError> {
+        let mut lines = Vec::new(alloc);
+        self.lines(alloc, &mut lines)?;
+        text_of(alloc, &lines)
     }
 }
 
@@ -232,58 +232,58 @@ impl Sheet {
         }
     }
 
-    fn node_lines(&self, heap: Global, lines: &mut Vec<Vec<u8>>) -> Result<(), AllocError> {
+    fn node_lines(&self, alloc: Global, lines: &mut Vec<Vec<u8>>) -> Result<(), AllocError> {
         let mut node: u64 = 0;
         for letter in self.letters.iter() {
             node = node.saturating_add(1);
-            lines.push(node_line(heap, node, *letter)?)?;
+            lines.push(node_line(alloc, node, *letter)?)?;
         }
         Ok(())
     }
 
     // The lines of the table, without their line feeds.
-    pub fn lines(&self, heap: Global) -> Result<Vec<Vec<u8>>, AllocError> {
-        let mut lines = Vec::new(heap);
-        self.node_lines(heap, &mut lines)?;
+    pub fn lines(&self, alloc: Global) -> Result<Vec<Vec<u8>>, AllocError> {
+        let mut lines = Vec::new(alloc);
+        self.node_lines(alloc, &mut lines)?;
         for work in self.works.iter() {
-            work.lines(heap, &mut lines)?;
+            work.lines(alloc, &mut lines)?;
         }
         Ok(lines)
     }
 }
 
-pub fn node_line(heap: Global, node: u64, letter: Letter) -> Result<Vec<u8>, AllocError> {
+pub fn node_line(alloc: Global, node: u64, letter: Letter) -> Result<Vec<u8>, AllocError> {
     let word = match letter {
         Letter::E => "E",
         Letter::P => "P",
     };
-    let line = format!(in heap; "node,{node},{word}")?;
-    line.as_bytes().to_vec(heap)
+    let line = format!(in alloc; "node,{node},{word}")?;
+    line.as_bytes().to_vec(alloc)
 }
 
-fn chain_line(heap: Global, chain: &ChainFields) -> Result<Vec<u8>, AllocError> {
+fn chain_line(alloc: Global, chain: &ChainFields) -> Result<Vec<u8>, AllocError> {
     let id = chain.id;
     let period = chain.period;
     let deadline = chain.deadline;
     let jitter = chain.arrival_jitter;
-    let line = format!(in heap; "chain,{id},{period},{deadline},{jitter}")?;
-    line.as_bytes().to_vec(heap)
+    let line = format!(in alloc; "chain,{id},{period},{deadline},{jitter}")?;
+    line.as_bytes().to_vec(alloc)
 }
 
-pub fn step_line(heap: Global, step: &StepFields) -> Result<Vec<u8>, AllocError> {
+pub fn step_line(alloc: Global, step: &StepFields) -> Result<Vec<u8>, AllocError> {
     let node = step.node;
     let cost = step.cost;
     let local = step.local;
     let delay = step.delay;
     let blocking = step.blocking;
     let priority = step.priority;
-    let line = format!(in heap; "step,{node},{cost},{local},{delay},{blocking},{priority}")?;
-    line.as_bytes().to_vec(heap)
+    let line = format!(in alloc; "step,{node},{cost},{local},{delay},{blocking},{priority}")?;
+    line.as_bytes().to_vec(alloc)
 }
 
 // The text of some lines, each with its line feed.
-pub fn text_of(heap: Global, lines: &Vec<Vec<u8>>) -> Result<Vec<u8>, AllocError> {
-    let mut text = Vec::new(heap);
+pub fn text_of(alloc: Global, lines: &Vec<Vec<u8>>) -> Result<Vec<u8>, AllocError> {
+    let mut text = Vec::new(alloc);
     for line in lines.iter() {
         text.extend_from_slice(line.as_slice())?;
         text.push(10u8)?;

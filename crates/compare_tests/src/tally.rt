@@ -48,8 +48,8 @@ fn number_behind(bytes: &[u8], skipped: usize) -> u64 {
 }
 
 // Bytes as text: what is no printable character or line feed is written by its number.
-fn legible(heap: Global, bytes: &[u8]) -> Result<String, AllocError> {
-    let mut text = String::new(heap);
+fn legible(alloc: Global, bytes: &[u8]) -> Result<String, AllocError> {
+    let mut text = String::new(alloc);
     for byte in bytes.iter() {
         if *byte == 10 {
             text.push_str("\n")?;
@@ -57,7 +57,7 @@ fn legible(heap: Global, bytes: &[u8]) -> Result<String, AllocError> {
             text.push(char::from(*byte))?;
         } else {
             let number = *byte;
-            let shown = format!(in heap; "<{number}>")?;
+            let shown = format!(in alloc; "<{number}>")?;
             text.push_str(shown.as_str())?;
         }
     }
@@ -123,10 +123,10 @@ impl Tally {
         if self.differences > SHOWN {
             return Ok(());
         }
-        let heap = rt.alloc();
-        let input = legible(heap, input)?;
-        let product = legible(heap, product)?;
-        let oracle = legible(heap, oracle)?;
+        let alloc = rt.alloc();
+        let input = legible(alloc, input)?;
+        let product = legible(alloc, product)?;
+        let oracle = legible(alloc, oracle)?;
         println!(rt; "difference:\n{input}product:\n{product}oracle:\n{oracle}")
     }
 

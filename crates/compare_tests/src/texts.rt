@@ -15,9 +15,9 @@ const NEARLY_ALL: u64 = 995_000;
 
 // Compares what is printed of a text.
 pub fn compare_text(rt: &HostRuntime, tally: &mut Tally, input: &[u8]) -> io::Result<()> {
-    let heap = rt.alloc();
-    let oracle = text::printed(heap, input)?;
-    let product = product::printed(heap, input, product::ROOM)?;
+    let alloc = rt.alloc();
+    let oracle = text::printed(alloc, input)?;
+    let product = product::printed(alloc, input, product::ROOM)?;
     tally.count_text(oracle.as_slice());
     if product != oracle {
         tally.differ(rt, input, product.as_slice(), oracle.as_slice())?;
@@ -27,11 +27,11 @@ pub fn compare_text(rt: &HostRuntime, tally: &mut Tally, input: &[u8]) -> io::Re
 
 // Compares what is printed into a buffer of just the length of the bytes, and into one that is a byte shorter.
 fn compare_room(rt: &HostRuntime, tally: &mut Tally, input: &[u8]) -> io::Result<()> {
-    let heap = rt.alloc();
-    let whole = product::printed(heap, input, product::ROOM)?;
-    let exact = product::printed(heap, input, whole.len())?;
+    let alloc = rt.alloc();
+    let whole = product::printed(alloc, input, product::ROOM)?;
+    let exact = product::printed(alloc, input, whole.len())?;
     tally.short_buffers = tally.short_buffers.saturating_add(1);
-    if exact != whole || !product::refuses_short(heap, input, whole.len())? {
+    if exact != whole || !product::refuses_short(alloc, input, whole.len())? {
         tally.differ(
             rt,
             input,
@@ -44,20 +44,20 @@ fn compare_room(rt: &HostRuntime, tally: &mut Tally, input: &[u8]) -> io::Result
 
 // A table whose nodes have time to spare.
 fn tame_sheet(
-    heap: Global,
+    alloc: Global,
     dice: &mut Dice,
     scale: &Scale,
     earliest: u64,
 ) -> Result<Sheet, AllocError> {
-    let mut sheet = random_sheet(heap, dice, scale, earliest)?;
+    let mut sheet = random_sheet(alloc, dice, scale, earliest)?;
     let times = sheet.heaviest() / TAME;
     sheet.stretch(times.saturating_add(1));
     Ok(sheet)
 }
 
 fn compare_sheet(rt: &HostRuntime, tally: &mut Tally, sheet: &Sheet) -> io::Result<()> {
-    let heap = rt.alloc();
-    let input = text_of(heap, &sheet.lines(heap)?)?;
+    let alloc = rt.alloc();
+    let input = text_of(alloc, &sheet.lines(alloc)?)?;
     compare_text(rt, tally, input.as_slice())
 }
 
@@ -146,7 +146,7 @@ pub fn large(rt: &HostRuntime, dice: &mut Dice, tally: &mut Tally) -> io::Result
 
 // Tables at and past the limits of chains and steps.
 pub fn crowded(rt: &HostRuntime, dice: &mut Dice, tally: &mut Tally) -> io::Result<()> {
-    let heap = rt.alloc();
+    let alloc = rt.alloc();
     let scale = Scale {
         nodes: 8,
         chains: dice.between(2, 18),
@@ -158,29 +158,29 @@ pub fn crowded(rt: &HostRuntime, dice: &mut Dice, tally: &mut Tally) -> io::Resu
         reach: 2_000,
     };
     let earliest = mixture(dice);
-    let mut lines = tame_sheet(heap, dice, &scale, earliest)?.lines(heap)?;
+    let mut lines = tame_sheet(alloc, dice, &scale, earliest)?.lines(alloc)?;
     if dice.percent(40) {
-        damage_lines(heap, dice, &mut lines)?;
+        damage_lines(alloc, dice, &mut lines)?;
     }
-    let input = text_of(heap, &lines)?;
+    let input = text_of(alloc, &lines)?;
     compare_text(rt, tally, input.as_slice())
 }
 
 // Damages the lines of a text so many times.
 fn damage_often(
-    heap: Global,
+    alloc: Global,
     dice: &mut Dice,
     lines: &mut Vec<Vec<u8>>,
     times: u64,
 ) -> Result<(), AllocError> {
     for _ in 0..times {
-        damage_lines(heap, dice, lines)?;
+        damage_lines(alloc, dice, lines)?;
     }
     Ok(())
 }
 
 // A small text with one to three damages.
-fn damaged_text(heap: Global, dice: &mut Dice) -> Result<Vec<u8>, AllocError> {
+fn damaged_text(alloc: Global, dice: &mut Dice) -> Result<Vec<u8>, AllocError> {
     let scale = Scale {
         nodes: dice.between(1, 4),
         chains: dice.between(0, 4),
@@ -191,16 +191,16 @@ fn damaged_text(heap: Global, dice: &mut Dice) -> Result<Vec<u8>, AllocError> {
         slack: 4,
         reach: 200,
     };
-    let mut sheet = tame_sheet(heap, dice, &scale, 50)?;
+    let mut sheet = tame_sheet(alloc, dice, &scale, 50)?;
     if dice.percent(5) {
         sheet.repeat_id();
     }
-    let mut lines = sheet.lines(heap)?;
+    let mut lines = sheet.lines(alloc)?;
     let times = dice.of(&[0, 1, 1, 2, 3, 4]);
-    damage_often(heap, dice, &mut lines, times)?;
-    let mut input = text_of(heap, &lines)?;
+    damage_often(alloc, dice, &mut lines, times)?;
+    let mut input = text_of(alloc, &lines)?;
     if times == 0 || dice.percent(10) {
-        damage_bytes(heap, dice, &mut input)?;
+        damage_bytes(alloc, dice, &mut input)?;
     }
     Ok(input)
 }

@@ -8,9 +8,9 @@ const TABLES: [&str; 4] = ["panel", "full", "late", "typing-error"];
 
 // The report on a table is what its file of expected bytes has.
 fn is_as_expected(rt: &HostRuntime, name: &str) -> anyhow::Result<bool> {
-    let heap = rt.alloc();
-    let table = fs::read(rt, format!(in heap; "{name}.csv")?.as_str())?;
-    let expected = fs::read(rt, format!(in heap; "{name}.out")?.as_str())?;
+    let alloc = rt.alloc();
+    let table = fs::read(rt, format!(in alloc; "{name}.csv")?.as_str())?;
+    let expected = fs::read(rt, format!(in alloc; "{name}.out")?.as_str())?;
     let mut buffer = [0; 4096];
     match report(table.as_slice(), &mut buffer) {
         Ok(told) => Ok(&buffer[0..told.len.min(4096)] == expected.as_slice()),

@@ -33,8 +33,8 @@ impl Load {
 }
 
 // The releases of those rows that have at least this priority.
-fn sources_from(heap: Global, loads: &[Load], priority: u64) -> Result<Vec<Source>, AllocError> {
-    let mut sources = Vec::new(heap);
+fn sources_from(alloc: Global, loads: &[Load], priority: u64) -> Result<Vec<Source>, AllocError> {
+    let mut sources = Vec::new(alloc);
     for load in loads.iter() {
         if load.priority >= priority {
             sources.push(load.source())?;
@@ -53,8 +53,8 @@ fn jitters_fit(asked: &Load, others: &[Load]) -> bool {
 }
 
 // The node's busy period: every row of the node counts.
-fn busy_period(heap: Global, asked: &Load, others: &[Load]) -> Result<Option<u64>, AllocError> {
-    let mut sources = sources_from(heap, others, 0)?;
+fn busy_period(alloc: Global, asked: &Load, others: &[Load]) -> Result<Option<u64>, AllocError> {
+    let mut sources = sources_from(alloc, others, 0)?;
     sources.push(asked.source())?;
     Ok(least_window(0, &mut sources, NO_DEADLINE, BUSY_LIMIT))
 }
@@ -96,7 +96,7 @@ fn earliest_deadline(asked: &Load, rivals: &mut Vec<Source>, busy: u64) -> Optio
 
 // The worst-case response time of a row among the other rows of its node. None is over.
 pub fn response_time(
-    heap: Global,
+    alloc: Global,
     letter: Letter,
     asked: &Load,
     others: &[Load],
@@ -104,16 +104,16 @@ pub fn response_time(
     if !jitters_fit(asked, others) {
         return Ok(None);
     }
-    let Some(busy) = busy_period(heap, asked, others)? else {
+    let Some(busy) = busy_period(alloc, asked, others)? else {
         return Ok(None);
     };
     match letter {
         Letter::E => {
-            let mut rivals = sources_from(heap, others, 0)?;
+            let mut rivals = sources_from(alloc, others, 0)?;
             Ok(earliest_deadline(asked, &mut rivals, busy))
         }
         Letter::P => {
-            let mut rivals = sources_from(heap, others, asked.priority)?;
+            let mut rivals = sources_from(alloc, others, asked.priority)?;
             Ok(fixed_priority(asked, &mut rivals, busy))
         }
     }

@@ -68,11 +68,11 @@ impl HeldStep {
 
 impl HeldChain {
     fn new(
-        heap: Global,
+        alloc: Global,
         fields: ChainFields,
         steps: &[StepFields],
     ) -> Result<HeldChain, AllocError> {
-        let mut held = Vec::new(heap);
+        let mut held = Vec::new(alloc);
         for step in steps.iter() {
             held.push(HeldStep {
                 fields: *step,
@@ -137,14 +137,14 @@ impl HeldChain {
     }
 
     // Appends a line of the listing for each step.
-    fn list(&self, heap: Global, bytes: &mut Vec<u8>) -> Result<(), AllocError> {
+    fn list(&self, alloc: Global, bytes: &mut Vec<u8>) -> Result<(), AllocError> {
         let id = self.fields.id;
         let mut number: u64 = 0;
         for step in self.steps.iter() {
             number = number.saturating_add(1);
             let jitter = step.jitter;
             let response = step.response;
-            let line = format!(in heap; "step,{id},{number},{jitter},{response}\n")?;
+            let line = format!(in alloc; "step,{id},{number},{jitter},{response}\n")?;
             bytes.extend_from_slice(line.as_bytes())?;
         }
         Ok(())
@@ -153,13 +153,13 @@ impl HeldChain {
 
 // The rows of a node but for the one asked for: step `at_step` of chain `at_chain`, both counted from 0.
 fn others_on(
-    heap: Global,
+    alloc: Global,
     chains: &Vec<HeldChain>,
     node: u64,
     at_chain: usize,
     at_step: usize,
 ) -> Result<Vec<Load>, AllocError> {
-    let mut loads = Vec::new(heap);
+    let mut loads = Vec::new(alloc);
     for (k, chain) in chains.iter().enumerate() {
         let asked = if k == at_chain { Some(at_step) } else { None };
         chain.loads_on(node, asked, &mut loads)?;
@@ -180,10 +180,10 @@ fn letter_of(letters: &Vec<NodeLetter>, node: u64) -> Letter {
 
 impl Panel {
     // A panel with no chain and these letters.
-    pub fn new(heap: Global, letters: Vec<NodeLetter>) -> Panel {
+    pub fn new(alloc: Global, letters: Vec<NodeLetter>) -> Panel {
         Panel {
             letters,
-            chains: Vec::new(heap),
+            chains: Vec::new(alloc),
             standing: None,
         }
     }
@@ -248,14 +248,14 @@ impl Panel {
     // Adds a chain behind the others. What was kept is kept, and the new rows start from 0.
     pub fn add(
         &mut self,
-        heap: Global,
+        alloc: Global,
         fields: ChainFields,
         steps: &[StepFields],
     ) -> Result<Answer, AllocError> {
         if let Some(fault) = self.add_fault(&fields, steps) {
             return Ok(fault);
         }
-        self.chains.push(HeldChain::new(heap, fields, steps)?)?;
+        self.chains.push(HeldChain::new(alloc, fields, steps)?)?;
         self.standing = None;
         Ok(Answer::Done)
     }
@@ -341,28 +341,28 @@ impl Panel {
     // The response time of one step at the jitters of this round.
     fn response(
         &self,
-        heap: Global,
+        alloc: Global,
         at_chain: usize,
         at_step: usize,
         asked: &HeldStep,
         period: u64,
     ) -> Result<Option<u64>, AllocError> {
         let node = asked.fields.node;
-        let others = others_on(heap, &self.chains, node, at_chain, at_step)?;
+        let others = others_on(alloc, &self.chains, node, at_chain, at_step)?;
         let letter = letter_of(&self.letters, node);
-        response_time(heap, letter, &asked.load(period), others.as_slice())
+        response_time(alloc, letter, &asked.load(period), others.as_slice())
     }
 
     // The responses of one chain. None if one is over or past the chain's end-to-end deadline.
     fn responses_of(
         &self,
-        heap: Global,
+        alloc: Global,
         at_chain: usize,
         chain: &HeldChain,
     ) -> Result<Option<Vec<u64>>, AllocError> {
-        let mut responses = Vec::new(heap);
+        let mut responses = Vec::new(alloc);
         for (k, step) in chain.steps.iter().enumerate() {
-            match self.response(heap, at_chain, k, step, chain.fields.period)? {
+            match self.response(alloc, at_chain, k, step, chain.fields.period)? {
                 Some(response) if response <= chain.fields.deadline => responses.push(response)?,
                 _ => return Ok(None),
             }
@@ -381,13 +381,13 @@ impl Panel {
     }
 
     // The responses of a round, chain by chain. None if the round refuses.
-    fn responses(&self, heap: Global) -> Result<Option<Vec<Vec<u64>>>, AllocError> {
+    fn responses(&self, alloc: Global) -> Result<Option<Vec<Vec<u64>>>, AllocError> {
         if self.is_late() {
             return Ok(None);
         }
-        let mut all = Vec::new(heap);
+        let mut all = Vec::new(alloc);
         for (k, chain) in self.chains.iter().enumerate() {
-            match self.responses_of(heap, k, chain)? {
+            match self.responses_of(alloc, k, chain)? {
                 Some(responses) => all.push(responses)?,
                 None => return Ok(None),
             }
@@ -412,10 +412,10 @@ impl Panel {
     }
 
     // Rounds from what is kept, up to the one that changes nothing or the one that refuses.
-    pub fn solve(&mut self, heap: Global) -> Result<Answer, AllocError> {
+    pub fn solve(&mut self, alloc: Global) -> Result<Answer, AllocError> {
         for rounds in 1..=MOST_ROUNDS {
             self.set_jitters();
-            let Some(all) = self.responses(heap)? else {
+            let Some(all) = self.responses(alloc)? else {
                 self.forget();
                 return Ok(Answer::Refused {
                     number: 10,
@@ -432,15 +432,15 @@ impl Panel {
     }
 
     // The bytes of the listing. None if no solve stands.
-    pub fn listing(&self, heap: Global) -> Result<Option<Vec<u8>>, AllocError> {
+    pub fn listing(&self, alloc: Global) -> Result<Option<Vec<u8>>, AllocError> {
         let Some(rounds) = self.standing else {
             return Ok(None);
         };
-        let head = format!(in heap; "rounds,{rounds}\n")?;
-        let mut bytes = Vec::new(heap);
+        let head = format!(in alloc; "rounds,{rounds}\n")?;
+        let mut bytes = Vec::new(alloc);
         bytes.extend_from_slice(head.as_bytes())?;
         for chain in self.chains.iter() {
-            chain.list(heap, &mut bytes)?;
+            chain.list(alloc, &mut bytes)?;
         }
         Ok(Some(bytes))
     }

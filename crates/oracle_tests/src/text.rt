@@ -65,12 +65,12 @@ enum Kind {
 }
 
 // The pieces of some bytes between the marks: one more than there are marks.
-fn cut(heap: Global, bytes: &[u8], mark: u8) -> Result<Vec<Vec<u8>>, AllocError> {
-    let mut pieces = Vec::new(heap);
-    let mut piece: Vec<u8> = Vec::new(heap);
+fn cut(alloc: Global, bytes: &[u8], mark: u8) -> Result<Vec<Vec<u8>>, AllocError> {
+    let mut pieces = Vec::new(alloc);
+    let mut piece: Vec<u8> = Vec::new(alloc);
     for byte in bytes.iter() {
         if *byte == mark {
-            pieces.push(std::mem::replace(&mut piece, Vec::new(heap)))?;
+            pieces.push(std::mem::replace(&mut piece, Vec::new(alloc)))?;
         } else {
             piece.push(*byte)?;
         }
@@ -103,10 +103,10 @@ fn decimal(field: &[u8]) -> Option<u64> {
 }
 
 impl FieldLine {
-    fn new(heap: Global, number: u64, bytes: &[u8]) -> Result<FieldLine, AllocError> {
+    fn new(alloc: Global, number: u64, bytes: &[u8]) -> Result<FieldLine, AllocError> {
         Ok(FieldLine {
             number,
-            fields: cut(heap, bytes, COMMA)?,
+            fields: cut(alloc, bytes, COMMA)?,
         })
     }
 
@@ -136,8 +136,8 @@ impl FieldLine {
     }
 
     // Faults 15 and 16 of the fields from the second to the one before `end`, from left to right: their numbers.
-    fn numbers(&self, heap: Global, end: usize) -> Result<Vec<u64>, Halt> {
-        let mut numbers = Vec::new(heap);
+    fn numbers(&self, alloc: Global, end: usize) -> Result<Vec<u64>, Halt> {
+        let mut numbers = Vec::new(alloc);
         let mut place: u64 = 1;
         for field in self.fields.iter().take(end).skip(1) {
             place = place.saturating_add(1);
@@ -185,8 +185,8 @@ struct Reader {
 }
 
 impl Reader {
-    fn node_line(&mut self, heap: Global, line: &FieldLine) -> Result<(), Halt> {
-        let numbers = line.numbers(heap, 2)?;
+    fn node_line(&mut self, alloc: Global, line: &FieldLine) -> Result<(), Halt> {
+        let numbers = line.numbers(alloc, 2)?;
         let letter = line.letter()?;
         let [node] = numbers.as_slice() else {
             return Err(line.fault(14, 0));
@@ -204,8 +204,8 @@ impl Reader {
         Ok(())
     }
 
-    fn chain_line(&mut self, heap: Global, line: &FieldLine) -> Result<(), Halt> {
-        let numbers = line.numbers(heap, 5)?;
+    fn chain_line(&mut self, alloc: Global, line: &FieldLine) -> Result<(), Halt> {
+        let numbers = line.numbers(alloc, 5)?;
         let [id, period, deadline, arrival_jitter] = numbers.as_slice() else {
             return Err(line.fault(14, 0));
         };
@@ -218,17 +218,17 @@ impl Reader {
         if let Some(place) = fields.out_of_range() {
             return Err(line.fault(1, place.saturating_add(1)));
         }
-        self.complete(heap)?;
+        self.complete(alloc)?;
         self.open = Some(OpenChain {
             line: line.number,
             fields,
-            steps: Vec::new(heap),
+            steps: Vec::new(alloc),
         });
         Ok(())
     }
 
-    fn step_line(&mut self, heap: Global, line: &FieldLine) -> Result<(), Halt> {
-        let numbers = line.numbers(heap, 7)?;
+    fn step_line(&mut self, alloc: Global, line: &FieldLine) -> Result<(), Halt> {
+        let numbers = line.numbers(alloc, 7)?;
         let [node, cost, local, delay, blocking, priority] = numbers.as_slice() else {
             return Err(line.fault(14, 0));
         };
@@ -254,32 +254,32 @@ impl Reader {
     }
 
     // The chain that was being read goes into the panel, or has fault 2, 3, 4 or 5.
-    fn complete(&mut self, heap: Global) -> Result<(), Halt> {
+    fn complete(&mut self, alloc: Global) -> Result<(), Halt> {
         let Some(open) = self.open.take() else {
             return Ok(());
         };
-        match self.panel.add(heap, open.fields, open.steps.as_slice())? {
+        match self.panel.add(alloc, open.fields, open.steps.as_slice())? {
             Answer::Refused { number, beside: _ } => Err(told_at(number, open.line, 0)),
             _ => Ok(()),
         }
     }
 
-    fn line(&mut self, heap: Global, number: u64, bytes: &[u8]) -> Result<(), Halt> {
-        let line = FieldLine::new(heap, number, bytes)?;
+    fn line(&mut self, alloc: Global, number: u64, bytes: &[u8]) -> Result<(), Halt> {
+        let line = FieldLine::new(alloc, number, bytes)?;
         match line.kind()? {
-            Kind::Node => self.node_line(heap, &line),
-            Kind::Chain => self.chain_line(heap, &line),
-            Kind::Step => self.step_line(heap, &line),
+            Kind::Node => self.node_line(alloc, &line),
+            Kind::Chain => self.chain_line(alloc, &line),
+            Kind::Step => self.step_line(alloc, &line),
         }
     }
 }
 
 // Faults 11 and 12, and else the lines of a text.
-fn lines_of(heap: Global, text: &[u8]) -> Result<Vec<Vec<u8>>, Halt> {
+fn lines_of(alloc: Global, text: &[u8]) -> Result<Vec<Vec<u8>>, Halt> {
     if text.len() > LONGEST_TEXT {
         return Err(told_at(11, 0, 0));
     }
-    let mut lines = cut(heap, text, LINE_FEED)?;
+    let mut lines = cut(alloc, text, LINE_FEED)?;
     let pieces = lines.len() as u64;
     // what stands behind the last line feed
     let rest = lines.pop();
@@ -290,49 +290,49 @@ fn lines_of(heap: Global, text: &[u8]) -> Result<Vec<Vec<u8>>, Halt> {
 }
 
 // The panel that a text gives, not yet solved.
-pub fn read(heap: Global, text: &[u8]) -> Result<Panel, Halt> {
-    let lines = lines_of(heap, text)?;
+pub fn read(alloc: Global, text: &[u8]) -> Result<Panel, Halt> {
+    let lines = lines_of(alloc, text)?;
     let mut reader = Reader {
-        panel: Panel::new(heap, Vec::new(heap)),
+        panel: Panel::new(alloc, Vec::new(alloc)),
         open: None,
     };
     let mut number: u64 = 0;
     for line in lines.iter() {
         number = number.saturating_add(1);
-        reader.line(heap, number, line.as_slice())?;
+        reader.line(alloc, number, line.as_slice())?;
     }
-    reader.complete(heap)?;
+    reader.complete(alloc)?;
     Ok(reader.panel)
 }
 
-fn fault_line(heap: Global, fault: &Fault) -> Result<Vec<u8>, AllocError> {
+fn fault_line(alloc: Global, fault: &Fault) -> Result<Vec<u8>, AllocError> {
     let number = fault.number;
     let line = fault.line;
     let field = fault.field;
-    let words = format!(in heap; "refused,{number},{line},{field}\n")?;
-    words.as_bytes().to_vec(heap)
+    let words = format!(in alloc; "refused,{number},{line},{field}\n")?;
+    words.as_bytes().to_vec(alloc)
 }
 
 // What is printed of a panel that was read.
-fn solved_bytes(heap: Global, panel: &mut Panel) -> Result<Vec<u8>, AllocError> {
-    if let Answer::Refused { number, beside } = panel.solve(heap)? {
-        let words = format!(in heap; "refused,{number},{beside}\n")?;
-        return words.as_bytes().to_vec(heap);
+fn solved_bytes(alloc: Global, panel: &mut Panel) -> Result<Vec<u8>, AllocError> {
+    if let Answer::Refused { number, beside } = panel.solve(alloc)? {
+        let words = format!(in alloc; "refused,{number},{beside}\n")?;
+        return words.as_bytes().to_vec(alloc);
     }
-    match panel.listing(heap)? {
+    match panel.listing(alloc)? {
         Some(bytes) => Ok(bytes),
-        None => Ok(Vec::new(heap)),
+        None => Ok(Vec::new(alloc)),
     }
 }
 
 // What is printed of a text.
-pub fn printed(heap: Global, text: &[u8]) -> Result<Vec<u8>, AllocError> {
-    match read(heap, text) {
+pub fn printed(alloc: Global, text: &[u8]) -> Result<Vec<u8>, AllocError> {
+    match read(alloc, text) {
         Ok(panel) => {
             let mut solving = panel;
-            solved_bytes(heap, &mut solving)
+            solved_bytes(alloc, &mut solving)
         }
-        Err(Halt::Fault(fault)) => fault_line(heap, &fault),
+        Err(Halt::Fault(fault)) => fault_line(alloc, &fault),
         Err(Halt::Memory) => Err(AllocError),
     }
 }

@@ -14,14 +14,14 @@ pub fn says(rt: &impl Abort, text: &[u8], expected: &[u8]) -> Result<(), Fail> {
         Ok(told) => {
             assert!(rt; &buffer[0..told.len.min(2048)] == expected);
             Ok(())
-        },
+        }
         Err(_) => Err(Fail::new("the buffer is too short")),
     }
 }
 
 // A chain of this id, with so many steps on node 1.
-pub fn put_chain(text: &mut String, heap: Global, id: u32, steps: u32) -> Result<(), AllocError> {
-    let line = format!(in heap; "chain,{id},1000000,1000000,0\n")?;
+pub fn put_chain(text: &mut String, alloc: Global, id: u32, steps: u32) -> Result<(), AllocError> {
+    let line = format!(in alloc; "chain,{id},1000000,1000000,0\n")?;
     text.push_str(line.as_str())?;
     for _ in 0..steps {
         text.push_str("step,1,1,1000,0,0,1\n")?;
@@ -30,10 +30,10 @@ pub fn put_chain(text: &mut String, heap: Global, id: u32, steps: u32) -> Result
 }
 
 // One node, and chains of so many steps each, with ids from 1 on.
-pub fn panel(heap: Global, chains: u32, steps: u32) -> Result<String, AllocError> {
-    let mut text = String::from_str(heap, "node,1,E\n")?;
+pub fn panel(alloc: Global, chains: u32, steps: u32) -> Result<String, AllocError> {
+    let mut text = String::from_str(alloc, "node,1,E\n")?;
     for id in 0..chains {
-        put_chain(&mut text, heap, id.saturating_add(1), steps)?;
+        put_chain(&mut text, alloc, id.saturating_add(1), steps)?;
     }
     Ok(text)
 }
