@@ -5,6 +5,7 @@ ghost use Rattle.lines.specs.Writing.{InverseOfWriting};
 
 use crate::cursor::Cursor;
 use crate::faults::{Fault, LineFault};
+use crate::kinds::{ChainKind, NodeKind, StepKind};
 use crate::line::{Kind, Line};
 
 const NODE: &[u8] = b"node";
@@ -37,9 +38,9 @@ fn line_in(line: &[u8]) -> Result<Line, LineFault>
         return Err(cursor.fault(Fault::UnknownKind));
     };
     match kind {
-        Kind::Node => Ok(Line::Node(cursor.record::<crate::kinds::NodeKind>()?)),
-        Kind::Chain => Ok(Line::Chain(cursor.record::<crate::kinds::ChainKind>()?)),
-        Kind::Step => Ok(Line::Step(cursor.record::<crate::kinds::StepKind>()?)),
+        Kind::Node => Ok(Line::Node(cursor.record::<NodeKind>()?)),
+        Kind::Chain => Ok(Line::Chain(cursor.record::<ChainKind>()?)),
+        Kind::Step => Ok(Line::Step(cursor.record::<StepKind>()?)),
     }
 }
 
