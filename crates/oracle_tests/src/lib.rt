@@ -1,5 +1,5 @@
 // A second response-time analyser, written from the documents alone (docs/MODEL.md, docs/PLAN.md, docs/TEXT.md).
-// It shares no code with the first: windows are scanned tick by tick, jobs are counted release by release, and chains own their steps.
+// It shares no code with the first: windows are scanned from release to release, jobs are counted release by release, and chains own their steps.
 #![tactic(auto)]
 
 pub mod fields;

@@ -1,4 +1,4 @@
-// The jobs of a row as a list of release instants, and windows scanned tick by tick.
+// The jobs of a row as a list of release instants, and windows scanned from release to release.
 //
 // Job k of a row (k from 0) is released at k × period − release jitter, and at instant 0 where that lies before it:
 // the jobs that the jitter held back fall together there. A job counts for a window of w ticks if it is released
@@ -97,15 +97,19 @@ pub fn least_window(own: u64, sources: &mut Vec<Source>, due: u64, limit: u64) -
     let first = first_batch(sources, due);
     let mut work = own.saturating_add(first.work);
     let mut soonest = first.soonest;
-    for window in 1..=limit {
-        if work == window {
-            return Some(window);
+    let mut window: u64 = 1;
+    for _ in 0..limit {
+        // from this tick to the next release the work stays the same
+        if work >= window && work <= soonest {
+            return if work <= limit { Some(work) } else { None };
         }
-        if window == soonest {
-            let batch = batch_at(sources, window, due);
-            work = work.saturating_add(batch.work);
-            soonest = batch.soonest;
+        if soonest >= limit {
+            return None;
         }
+        let batch = batch_at(sources, soonest, due);
+        work = work.saturating_add(batch.work);
+        window = soonest.saturating_add(1);
+        soonest = batch.soonest;
     }
     None
 }
