@@ -1,5 +1,5 @@
 -- The cases, computed by the definitions themselves, but for an answer that is over.
-use Rattle.std.proofs.Common.{◌≡◌, ℕ, List, [], ◌∷◌, Some, None, Option, refl, arith}
+use Rattle.std.proofs.Common.{◌≡◌, ℕ, List, [], ◌∷◌, None, Option, refl, arith}
 use Rattle.records.specs.declared.fields.Row.{Row}
 use Rattle.climb.specs.Climb.{FirstFixed, first_fixed, settled}
 use Rattle.climb.specs.Climb.FirstFixed.{none, one}

@@ -1,5 +1,5 @@
 -- Lists under lists, and what holds of each element.
-use Rattle.std.proofs.Common.{◌≡◌, ℕ, zero, suc, ◌<◌, ◌≤◌, Bool, true, false, ◌&&◌, List, [], ◌∷◌, ◌++◌, length, get_or, drop, replicate, refl, ap, ap₂, arith}
+use Rattle.std.proofs.Common.{◌≡◌, ℕ, zero, suc, ◌<◌, ◌≤◌, Bool, true, List, [], ◌∷◌, ◌++◌, length, get_or, drop, replicate, refl, ap, ap₂, arith}
 use Rattle.records.proofs.InRange.{and_true}
 use Rattle.rules.specs.Rules.{each_passes, Under}
 use Rattle.rules.specs.Rules.Under.{ended, beside}

@@ -7,7 +7,6 @@ use Rattle.lines.specs.declared.line.Line.{Line}
 use Rattle.lines.specs.declared.line.Line.TheVariants.{Node, Chain, Step}
 use Rattle.lines.specs.declared.line.NodeLine.{NodeLine}
 use Rattle.lines.specs.Faults.{on_line}
-use Rattle.lines.specs.Lines.{◌then◌}
 use Rattle.reading.specs.Reading.{Panel, Draft, numbered, fit_answer, step_answer, give, begun, with_chain, taken}
 use Rattle.reading.specs.Reading.Draft.{of_nodes, of_chains}
 use Rattle.sheets.specs.Sheets.{Written, Sheet, chain_lines, all_chain_lines, sheet_lines, panel_of, Every, Apart, NodeFits, StepFits}

@@ -1,5 +1,5 @@
 -- One step more of a chain, and one chain more of a plan.
-use Rattle.std.proofs.Common.{◌≡◌, ℕ, ◌+◌, ◌<◌, ◌≤◌, cond, ltb, List, [], ◌∷◌, ◌++◌, map, length, take, set, replicate, None, Ok, Err, sym, ap, ◌∙◌, subst, arith}
+use Rattle.std.proofs.Common.{◌≡◌, ℕ, ◌+◌, ◌<◌, cond, ltb, List, [], ◌∷◌, ◌++◌, length, take, set, replicate, None, Ok, Err, sym, ap, ◌∙◌, subst, arith}
 use lib.ListN.{length-map, replicate-append-replicate}
 use Rattle.std.proofs.lemmas.List.{take_more_set, length-take-le, append-nil}
 use Rattle.std.proofs.lemmas.Bool.{lt-ltb, cond-true}
