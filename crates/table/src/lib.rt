@@ -8,7 +8,7 @@ mod drafting;
 mod given;
 mod nodes;
 mod reader;
-mod reading;
 mod steps;
+mod texts;
 
 pub use reader::{Reader, TablePlan};
