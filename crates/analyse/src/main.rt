@@ -9,10 +9,10 @@ mod tests;
 
 use crate::input::{Source, asked_for, read_table};
 use crate::sentences::sentence;
-use anyhow::anyhow;
 use law::Refusal;
 use report::{Report, report};
 use std::io::Write;
+use std::process::ExitCode;
 
 // The longest listing has 64 lines of at most 30 bytes, after one of at most 18.
 const ROOM: usize = 4096;
@@ -31,23 +31,23 @@ docs/TEXT.md has the format of a table and every refusal.
 ";
 
 // Writes what is reported, and why it is a refusal if it is one.
-fn tell(rt: &HostRuntime, text: &[u8], told: &Report, bytes: &[u8]) -> anyhow::Result<()> {
+fn tell(rt: &HostRuntime, text: &[u8], told: &Report, bytes: &[u8]) -> anyhow::Result<ExitCode> {
     rt.stdout().write_all(bytes)?;
     match sentence(rt.alloc(), text, &told.verdict)? {
         Some(why) => {
             eprintln!(rt; "{why}")?;
-            Err(anyhow!("refused"))
+            Ok(ExitCode::FAILURE)
         }
-        None => Ok(()),
+        None => Ok(ExitCode::SUCCESS),
     }
 }
 
-fn analyse(rt: &HostRuntime, from: &Source) -> anyhow::Result<()> {
+fn analyse(rt: &HostRuntime, from: &Source) -> anyhow::Result<ExitCode> {
     let table = match read_table(rt, from) {
         Ok(table) => table,
         Err(why) => {
             eprintln!(rt; "the table cannot be read: {why}")?;
-            return Err(why.into());
+            return Ok(ExitCode::FAILURE);
         }
     };
     let mut buffer = [0; ROOM];
@@ -58,22 +58,22 @@ fn analyse(rt: &HostRuntime, from: &Source) -> anyhow::Result<()> {
 }
 
 // The buffer is longer than any report, so nobody sees this.
-fn short(rt: &HostRuntime, why: Refusal) -> anyhow::Result<()> {
+fn short(rt: &HostRuntime, why: Refusal) -> anyhow::Result<ExitCode> {
     let number = why.number();
     println!(rt; "refused,{number}")?;
     eprintln!(rt; "the report is longer than {ROOM} bytes")?;
-    Err(anyhow!("refused"))
+    Ok(ExitCode::FAILURE)
 }
 
-fn main(rt: HostRuntime) -> anyhow::Result<()> {
+fn main(rt: HostRuntime) -> anyhow::Result<ExitCode> {
     match asked_for(&rt)? {
         Source::Help => {
             print!(rt; "{HELP}")?;
-            Ok(())
+            Ok(ExitCode::SUCCESS)
         }
         Source::Unclear => {
             eprint!(rt; "{HELP}")?;
-            Err(anyhow!("wrong arguments"))
+            Ok(ExitCode::FAILURE)
         }
         from => analyse(&rt, &from),
     }

@@ -13,7 +13,7 @@
 --   R       the response time: the largest J + w(A) − A over the instants A
 --
 -- L, w and R, with the limits past which they are over, are defined in policies/specs (`busy`, `demand`, `response`, `answer`), which
--- both node rules share; `by-deadline` below says which instants are tried, and how many jobs of each row count.
+-- both node rules share; `by_deadline` below says which instants are tried, and how many jobs of each row count.
 use Rattle.std.specs.Prelude.{◌≡◌, ℕ, ◌+◌, ◌-◌, ◌*◌, ◌/◌, ◌<◌, ◌≤◌, min, cond, ◌↔◌, Some, None, Option, MatchOption, ◌==◌, nat_lt}
 use Rattle.records.specs.declared.fields.Row.{Row}
 use Rattle.rules.specs.Rules.{Meaning}

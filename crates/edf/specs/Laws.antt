@@ -1,4 +1,4 @@
--- The earliest_deadline rule shows the laws of node rules; and what the jobs that are due are.
+-- The earliest-deadline rule shows the laws of node rules; and what the jobs that are due are.
 use Rattle.std.specs.Prelude.{◌≡◌, ℕ, ◌+◌, ◌-◌, ◌*◌, ◌/◌, ◌<◌, ◌≤◌, ◌↔◌, refl}
 use Rattle.std.proofs.Common.{inl, inr, le_refl, add-le-add, le-div_iff_mul-le, arith}
 use Rattle.std.proofs.lemmas.Bool.{cases_lt, lt-ltb, le-ltb, cond-true, cond-false}

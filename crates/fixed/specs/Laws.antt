@@ -1,4 +1,4 @@
--- The fixed_priority rule shows the laws of node rules.
+-- The fixed-priority rule shows the laws of node rules.
 use Rattle.std.proofs.Common.{zero-mul, le_refl, arith}
 use Rattle.rules.specs.Rules.{Laws}
 use Rattle.policies.specs.Policy.{Sound}

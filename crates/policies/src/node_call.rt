@@ -1,5 +1,5 @@
 // What the work of a node is summed up from: a valid call, read task by task.
-// The rising rules are generic over it, since rattle proves no law of a type that borrows.
+// The rising rules are generic over it, so that the types which show their laws borrow nothing.
 ghost use Rattle.std.specs.Prelude.{◌≡◌, ℕ, ◌<◌, true, List, length, slice_index, slice_index_or};
 ghost use Rattle.records.specs.declared.fields.Row.{Row};
 ghost use Rattle.rules.specs.Rules.{no_row, valid};
