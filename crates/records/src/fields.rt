@@ -1,18 +1,18 @@
 // Plain numbers, in range or not. Times are whole ticks.
 
 // A deadline counted from a step's release.
-#[derive(Clone, Copy)]
+#[derive(Clone, Copy, PartialEq, Eq, Debug)]
 pub struct LocalDeadline {
     pub ticks: u32,
 }
 
 // A deadline counted from the start of the chain's period.
-#[derive(Clone, Copy)]
+#[derive(Clone, Copy, PartialEq, Eq, Debug)]
 pub struct EndToEndDeadline {
     pub ticks: u32,
 }
 
-#[derive(Clone, Copy)]
+#[derive(Clone, Copy, PartialEq, Eq, Debug)]
 pub struct ChainFields {
     pub id: u32,
     pub period: u32,
@@ -20,7 +20,7 @@ pub struct ChainFields {
     pub arrival_jitter: u32,
 }
 
-#[derive(Clone, Copy)]
+#[derive(Clone, Copy, PartialEq, Eq, Debug)]
 pub struct StepFields {
     pub node: u32,
     pub cost: u32,
@@ -31,7 +31,7 @@ pub struct StepFields {
 }
 
 // A step with the period of its chain.
-#[derive(Clone, Copy)]
+#[derive(Clone, Copy, PartialEq, Eq, Debug)]
 pub struct Row {
     pub period: u32,
     pub step: StepFields,

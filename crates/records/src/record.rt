@@ -4,13 +4,13 @@ ghost use Rattle.records.specs.Ranges.{chain_fits, step_fits};
 
 use crate::fields::{ChainFields, StepFields};
 
-#[derive(Clone, Copy)]
+#[derive(Clone, Copy, PartialEq, Eq, Debug)]
 pub struct Chain {
     pub(crate) fields: ChainFields,
     ghost in_range: { chain_fits fields ≡ true },
 }
 
-#[derive(Clone, Copy)]
+#[derive(Clone, Copy, PartialEq, Eq, Debug)]
 pub struct Step {
     pub(crate) fields: StepFields,
     ghost in_range: { step_fits fields ≡ true },
