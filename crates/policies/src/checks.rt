@@ -11,23 +11,13 @@ const LARGEST_JITTER: u32 = 2_000_000;
 fn jitters_fit(jitters: &[u32]) -> bool
     ensures { result ≡ each_passes jitter_fits jitters.now }
 {
-    for jitter in jitters {
-        if *jitter > LARGEST_JITTER {
-            return false;
-        }
-    }
-    true
+    jitters.iter().all(|jitter| *jitter <= LARGEST_JITTER)
 }
 
 fn rows_fit(rows: &[Row]) -> bool
     ensures { result ≡ each_passes row_fits rows.now }
 {
-    for row in rows {
-        if !row.fits() {
-            return false;
-        }
-    }
-    true
+    rows.iter().all(Row::fits)
 }
 
 // The row is one of the rows, each row has a jitter, and all numbers are in their ranges.

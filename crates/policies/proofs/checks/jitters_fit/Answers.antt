@@ -1,16 +1,11 @@
-use Rattle.std.proofs.Common.{sym, ◌∙◌, arith}
-use Rattle.std.proofs.lemmas.Bool.{le-leb, lt-leb}
+use Rattle.std.proofs.Common.{rules, tests, ◌∙◌}
+use Rattle.std.proofs.lemmas.Iterator.{YieldsList-from_slice}
+use Rattle.std.proofs.lemmas.Iterator.Search.{all_from_yields_List}
 use Rattle.rules.specs.Rules.{jitter_fits}
-use Rattle.policies.proofs.Passing.{passes_more, passes_fails, passes_all}
+use Rattle.policies.proofs.Passing.{all_pass}
 use Rattle.policies.proofs.checks.jitters_fit.Goals as goal
 
-pub returns-then-jitter-gt-LARGEST_JITTER : goal.returns-then-jitter-gt-LARGEST_JITTER
-returns-then-jitter-gt-LARGEST_JITTER c =
-    sym (c.loop-jitter.invariant ∙ passes_fails jitter_fits c.args.jitters.now c.loop-jitter.jitter-index 0 (omega arith) (lt-leb _ _ c.if-jitter-gt-LARGEST_JITTER.true))
-
-pub loop-jitter-preserved : goal.loop-jitter-preserved
-loop-jitter-preserved c =
-    c.loop-jitter.invariant ∙ passes_more jitter_fits c.args.jitters.now c.loop-jitter.jitter-index 0 (omega arith) (le-leb _ _ c.if-jitter-gt-LARGEST_JITTER.false)
-
 pub returns : goal.returns
-returns c = sym (c.loop-jitter.invariant ∙ passes_all jitter_fits c.args.jitters.now c.loop-jitter.jitter-index (omega arith))
+returns c =
+    all_from_yields_List jitter_fits _ _ _ c.all.ensures.ran (YieldsList-from_slice c.args.jitters.now cc) (λ x b q k. search (rules, tests))
+    ∙ all_pass jitter_fits c.args.jitters.now

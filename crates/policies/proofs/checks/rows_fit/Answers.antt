@@ -1,18 +1,11 @@
-use Rattle.std.proofs.Common.{sym, ◌∙◌, arith}
+use Rattle.std.proofs.Common.{rules, tests, ◌∙◌}
+use Rattle.std.proofs.lemmas.Iterator.{YieldsList-from_slice}
+use Rattle.std.proofs.lemmas.Iterator.Search.{all_from_yields_List}
 use Rattle.records.specs.Ranges.{row_fits}
-use Rattle.rules.specs.Rules.{no_row}
-use Rattle.policies.proofs.Passing.{passes_more, passes_fails, passes_all}
+use Rattle.policies.proofs.Passing.{all_pass}
 use Rattle.policies.proofs.checks.rows_fit.Goals as goal
 
-pub returns-then-not-fits : goal.returns-then-not-fits
-unfolding no_row
-returns-then-not-fits c =
-    sym (c.loop-row.invariant ∙ passes_fails row_fits c.args.rows.now c.loop-row.row-index no_row (omega arith) (sym c.fits.ensures ∙ c.if-not-fits.true))
-
-pub loop-row-preserved : goal.loop-row-preserved
-unfolding no_row
-loop-row-preserved c =
-    c.loop-row.invariant ∙ passes_more row_fits c.args.rows.now c.loop-row.row-index no_row (omega arith) (sym c.fits.ensures ∙ c.if-not-fits.false)
-
 pub returns : goal.returns
-returns c = sym (c.loop-row.invariant ∙ passes_all row_fits c.args.rows.now c.loop-row.row-index (omega arith))
+returns c =
+    all_from_yields_List row_fits _ _ _ c.all.ensures.ran (YieldsList-from_slice c.args.rows.now cc) (λ x b q k. search (rules, tests))
+    ∙ all_pass row_fits c.args.rows.now
