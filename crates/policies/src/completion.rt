@@ -4,7 +4,7 @@ ghost use Rattle.policies.specs.Policy.{demand};
 ghost use Rattle.rules.proofs.Validity.{valid_shows};
 ghost use Rattle.policies.specs.PolicyLemmas.{demand_rises};
 
-use crate::node_call::NodeCall;
+use crate::call::ValidCall;
 use crate::node_work::{JobCount, node_work};
 use crate::scheduling::SchedulingPolicy;
 use crate::task::Task;
@@ -34,32 +34,31 @@ impl<P: SchedulingPolicy> JobCount for Before<P> {
 }
 
 #[derive(Drop)]
-pub(crate) struct Completion<P, C> {
-    pub(crate) policy: P,
-    pub(crate) call: C,
+pub(crate) struct Completion<'l, 'c, P> {
+    pub(crate) call: &'l ValidCall<'c, P>,
     pub(crate) start: u32,
 }
 
-impl<P: SchedulingPolicy + Copy, C: NodeCall> RisingRule for Completion<P, C> {
-    ghost gives = { λ s. demand P.SchedulingPolicy.shares (C.NodeCall.rows s.call) (C.NodeCall.jitters s.call) (C.NodeCall.asked s.call) s.start };
+impl<P: SchedulingPolicy + Copy> RisingRule for Completion<'_, '_, P> {
+    ghost gives = { λ s. demand P.SchedulingPolicy.shares s.call.now.rows.now s.call.now.jitters.now s.call.now.asked s.start };
 
-    ghost rises = { λ rule. demand_rises P.SchedulingPolicy.shares P.SchedulingPolicy.sound (valid_shows _ _ _ (C.NodeCall.checked rule.call)) rule.start };
+    ghost rises = { λ rule. demand_rises P.SchedulingPolicy.shares P.SchedulingPolicy.sound (valid_shows _ _ _ rule.call.now.checked) rule.start };
 
     fn apply(&self, at: u32) -> u64 {
+        let policy = self.call.policy;
         let task = self.call.asked_task();
         let before = Before {
-            policy: self.policy,
+            policy,
             task,
-            asked: self.call.asked_index(),
+            asked: self.call.asked,
             start: self.start,
             window: at,
         };
-        let own = self
-            .policy
+        let own = policy
             .own(&task, self.start)
             .saturating_mul(u64::from(task.row.step.cost));
         u64::from(task.row.step.blocking)
             .saturating_add(own)
-            .saturating_add(node_work(&self.call, &before))
+            .saturating_add(node_work(self.call, &before))
     }
 }

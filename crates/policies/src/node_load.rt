@@ -3,7 +3,7 @@ ghost use Rattle.policies.specs.Busy.{arrivals, load};
 ghost use Rattle.rules.proofs.Validity.{valid_shows};
 ghost use Rattle.policies.specs.PolicyLemmas.{load_rises};
 
-use crate::node_call::NodeCall;
+use crate::call::ValidCall;
 use crate::node_work::{JobCount, node_work};
 use crate::task::Task;
 use climb::RisingRule;
@@ -23,16 +23,16 @@ impl JobCount for Arrivals {
 }
 
 #[derive(Drop)]
-pub(crate) struct NodeLoad<C> {
-    pub(crate) call: C,
+pub(crate) struct NodeLoad<'l, 'c, P> {
+    pub(crate) call: &'l ValidCall<'c, P>,
 }
 
-impl<C: NodeCall> RisingRule for NodeLoad<C> {
-    ghost gives = { λ s. load (C.NodeCall.rows s.call) (C.NodeCall.jitters s.call) (C.NodeCall.asked s.call) };
+impl<P> RisingRule for NodeLoad<'_, '_, P> {
+    ghost gives = { λ s. load s.call.now.rows.now s.call.now.jitters.now s.call.now.asked };
 
-    ghost rises = { λ rule. load_rises (valid_shows _ _ _ (C.NodeCall.checked rule.call)) };
+    ghost rises = { λ rule. load_rises (valid_shows _ _ _ rule.call.now.checked) };
 
     fn apply(&self, at: u32) -> u64 {
-        node_work(&self.call, &Arrivals { window: at })
+        node_work(self.call, &Arrivals { window: at })
     }
 }

@@ -1,10 +1,10 @@
 // The time that the tasks of a node ask of it, if some jobs of each count.
-ghost use Rattle.std.specs.Prelude.{◌≡◌, ℕ, ◌-◌, ◌^◌, min, slice_index, slice_index_or};
+ghost use Rattle.std.specs.Prelude.{◌≡◌, ℕ, ◌-◌, ◌^◌, min, slice_index};
 ghost use Rattle.records.specs.declared.fields.Row.{Row};
-ghost use Rattle.rules.specs.Rules.{no_row};
+ghost use Rattle.rules.specs.Rules.{row};
 ghost use Rattle.policies.specs.Busy.{work};
 
-use crate::node_call::NodeCall;
+use crate::call::ValidCall;
 use crate::task::Task;
 
 // How many jobs of each task count.
@@ -17,15 +17,18 @@ pub(crate) trait JobCount {
 }
 
 // The sum over the tasks on the node of the task that is asked for; the largest u64 stands for anything that a u64 cannot hold.
-pub(crate) fn node_work<C: NodeCall, J: JobCount>(call: &C, counts: &J) -> u64
-    ensures { result ≡ min (work (C.rows call.now) (C.asked call.now) (λ k. J.jobs counts.now (slice_index_or (C.rows call.now) k no_row) (slice_index (C.jitters call.now) k) k)) (2 ^ 64 - 1) }
+pub(crate) fn node_work<P, J: JobCount>(call: &ValidCall<P>, counts: &J) -> u64
+    ensures { result ≡ min (work call.now.rows.now call.now.asked (λ k. J.jobs counts.now (row call.now.rows.now k) (slice_index call.now.jitters.now k) k)) (2 ^ 64 - 1) }
 {
     let node = call.asked_task().row.step.node;
     let mut sum: u64 = 0;
-    for index in 0..call.len() {
-        let task = call.task(index);
-        if task.row.step.node == node {
-            let cost = u64::from(task.row.step.cost);
+    for (index, (row, jitter)) in call.rows.iter().zip(call.jitters).enumerate() {
+        if row.step.node == node {
+            let task = Task {
+                row: *row,
+                jitter: *jitter,
+            };
+            let cost = u64::from(row.step.cost);
             sum = sum.saturating_add(counts.count(&task, index).saturating_mul(cost));
         }
     }

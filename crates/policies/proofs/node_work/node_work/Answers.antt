@@ -1,32 +1,52 @@
-use Rattle.std.proofs.Common.{◌≡◌, ℕ, ◌*◌, length, get_or, arith}
-use Rattle.rules.specs.Rules.{no_row}
+use Rattle.std.proofs.Common.{◌≡◌, ℕ, ◌*◌, length, get_or, length-append, ap₂, ◌∙◌, arith, true}
+use Rattle.records.specs.Ranges.{row_fits}
+use Rattle.rules.specs.Rules.{row, no_row}
+use Rattle.rules.proofs.Lists.{each_at}
+use Rattle.rules.proofs.Validity.{valid_shows, jitter_small}
 use Rattle.policies.specs.Busy.{share, work}
+use Rattle.policies.proofs.Numbered.{turn, turn_counts, turns_end}
 use Rattle.policies.proofs.Summing.{share_here, share_elsewhere, sum_goes_on}
 use Rattle.policies.proofs.node_work.node_work.Goals as goal
-use Rattle.policies.proofs.node_work.node_work.Goals.{then-task-node, else-task-node}
+
+pub invariant_of-task : goal.invariant_of-task
+invariant_of-task g c =
+    let call = c.args.call.now in
+    let v = valid_shows _ _ _ call.checked in
+    let t = turn v.one_each c.into_iter-index-iterator.result (cc) (cc) (cc) c.loop-index.yielded c.loop-index.index-iterator c.loop-index.yielded_by c.next.new.self c.in-Some.is c.next.ensures.steps in
+    let n = length c.loop-index.yielded in
+    record {
+      in_range = rw t.row_is (each_at (λ r. row_fits r ≡ true) call.rows.now n no_row v.fits t.inside);
+      small = rw t.jitter_is (jitter_small v n t.inside);
+    }
+
+pub loop-index-preserved-then-row-node : goal.loop-index-preserved-then-row-node
+loop-index-preserved-then-row-node g c =
+    let call = c.args.call.now in
+    let rows = call.rows.now in
+    let v = valid_shows _ _ _ call.checked in
+    let t = turn v.one_each c.into_iter-index-iterator.result (cc) (cc) (cc) c.loop-index.yielded c.loop-index.index-iterator c.loop-index.yielded_by c.next.new.self c.in-Some.is c.next.ensures.steps in
+    let n = length c.loop-index.yielded in
+    let count : ℕ → ℕ = λ k. g.J.JobCount.jobs c.args.counts.now (row rows k) (get_or call.jitters.now k 0) k in
+    let r = c.in-Some.row.now in
+    let e = share_here rows call.asked n (count n) r c.asked_task-node.result.row t.row_is c.asked_task-node.ensures.row c.if-row-node.true in
+    let p : c.count.result * c.from-cost.result ≡ count n * r.step.cost = ap₂ ◌*◌ (c.count.ensures ∙ turn_counts (g.J.JobCount.jobs c.args.counts.now) t) c.from-cost.ensures in
+    sum_goes_on (λ k. share rows call.asked k (count k)) n _ c.loop-index.sum _ (count n * r.step.cost) (length-append _ _) c.loop-index.invariant e (omega arith)
 
 pub loop-index-preserved : goal.loop-index-preserved
 loop-index-preserved g c =
     let call = c.args.call.now in
-    let rows = g.C.NodeCall.rows call in
-    let asked = g.C.NodeCall.asked call in
-    let k = c.loop-index.index in
-    let count : ℕ → ℕ = λ k. g.J.JobCount.jobs c.args.counts.now (get_or rows k no_row) (get_or (g.C.NodeCall.jitters call) k 0) k in
-    let r = c.task-task.result.row in
-    let a = c.asked_task-node.result.row in
-    let f : ℕ → ℕ = λ k. share rows asked k (count k) in
-    elim c.if-task-node.branch [
-      | then-task-node w ↦
-          let e = share_here rows asked k (count k) r a c.task-task.ensures.row c.asked_task-node.ensures.row w.if-task-node.true in
-          let p : w.count.result * w.from-cost.result ≡ count k * r.step.cost = cc in
-          sum_goes_on f k c.loop-index.sum c.if-task-node.sum (count k * r.step.cost) c.loop-index.invariant e (omega arith)
-      | else-task-node w ↦
-          let e = share_elsewhere rows asked k (count k) r a c.task-task.ensures.row c.asked_task-node.ensures.row w.if-task-node.false in
-          sum_goes_on f k c.loop-index.sum c.if-task-node.sum 0 c.loop-index.invariant e (omega arith)
-    ]
+    let rows = call.rows.now in
+    let v = valid_shows _ _ _ call.checked in
+    let t = turn v.one_each c.into_iter-index-iterator.result (cc) (cc) (cc) c.loop-index.yielded c.loop-index.index-iterator c.loop-index.yielded_by c.next.new.self c.in-Some.is c.next.ensures.steps in
+    let n = length c.loop-index.yielded in
+    let count : ℕ → ℕ = λ k. g.J.JobCount.jobs c.args.counts.now (row rows k) (get_or call.jitters.now k 0) k in
+    let e = share_elsewhere rows call.asked n (count n) c.in-Some.row.now c.asked_task-node.result.row t.row_is c.asked_task-node.ensures.row c.if-row-node.false in
+    sum_goes_on (λ k. share rows call.asked k (count k)) n _ c.loop-index.sum _ 0 (length-append _ _) c.loop-index.invariant e (omega arith)
 
 pub returns : goal.returns
 unfolding work
 returns g c =
-    let e : c.loop-index.index ≡ length (g.C.NodeCall.rows c.args.call.now) = omega arith in
+    let call = c.args.call.now in
+    let v = valid_shows _ _ _ call.checked in
+    let e = turns_end v.one_each c.into_iter-index-iterator.result (cc) (cc) (cc) c.loop-index.yielded c.loop-index.index-iterator c.loop-index.yielded_by c.next.new.self c.in-None.is c.next.ensures.steps in
     rw (← e) c.loop-index.invariant
