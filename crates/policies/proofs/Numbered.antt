@@ -33,9 +33,6 @@ pub record Turn (rows : List Row) (js : List ℕ) (n : ℕ) (item : Item) : Type
   pub row_is : item.1.0.now ≡ row rows n
   pub jitter_is : item.1.1.now ≡ get_or js n 0
 
-pub turn_counts : (jobs : Row → ℕ → ℕ → ℕ) {rows : List Row} {js : List ℕ} {n : ℕ} {item : Item} → Turn rows js n item → jobs item.1.0.now item.1.1.now item.0 ≡ jobs (row rows n) (get_or js n 0) n
-turn_counts jobs t = rw (t.number, t.row_is, t.jitter_is)
-
 -- what is seen of an item
 abbrev seen : Item → ℕ × (Row × ℕ)
 seen item = (item.0, (item.1.0.now, item.1.1.now))

@@ -3,7 +3,6 @@ ghost use Rattle.std.specs.Prelude.{◌≡◌, true, false, MatchOption, slice_i
 ghost use Rattle.rules.specs.Rules.{row, valid};
 
 use crate::checks::is_valid;
-use crate::scheduling::SchedulingPolicy;
 use crate::task::Task;
 use records::Row;
 
@@ -17,7 +16,7 @@ pub(crate) struct ValidCall<'c, P> {
     ghost checked: { valid rows.now jitters.now asked ≡ true },
 }
 
-impl<'c, P: SchedulingPolicy + Copy> ValidCall<'c, P> {
+impl<'c, P: Copy> ValidCall<'c, P> {
     // The call, if it is valid.
     pub(crate) fn new(
         policy: P,
@@ -38,9 +37,7 @@ impl<'c, P: SchedulingPolicy + Copy> ValidCall<'c, P> {
             None
         }
     }
-}
 
-impl<P> ValidCall<'_, P> {
     // The row that is asked for, with its jitter.
     pub(crate) fn asked_task(&self) -> Task
         ensures row { result.row ≡ row self.now.rows.now self.now.asked }
