@@ -4,7 +4,6 @@ ghost use Rattle.rules.proofs.Validity.{valid_shows};
 ghost use Rattle.policies.specs.PolicyLemmas.{demand_rises};
 
 use crate::call::ValidCall;
-use crate::node_work::node_work;
 use crate::scheduling::SchedulingPolicy;
 use climb::RisingRule;
 
@@ -20,19 +19,18 @@ impl<P: SchedulingPolicy + Copy> RisingRule for Completion<'_, '_, P> {
     ghost rises = { λ rule. demand_rises P.SchedulingPolicy.shares P.SchedulingPolicy.sound (valid_shows _ _ _ rule.call.now.checked) rule.start };
 
     fn apply(&self, at: u32) -> u64 {
-        let policy = self.call.policy;
-        let start = self.start;
-        let asked = self.call.asked;
-        let task = self.call.asked_task();
-        let own = policy
-            .own(&task, start)
+        let call = self.call;
+        let task = call.asked_task();
+        let own = call
+            .policy
+            .own(&task, self.start)
             .saturating_mul(u64::from(task.row.step.cost));
         // The task's own jobs are counted apart.
-        let others = node_work(self.call, |other, index| {
-            if index == asked {
+        let others = call.node_work(|other, index| {
+            if index == call.asked {
                 0
             } else {
-                policy.before(&task, start, &other, at)
+                call.policy.before(&task, self.start, &other, at)
             }
         });
         u64::from(task.row.step.blocking)

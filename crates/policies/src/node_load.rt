@@ -4,7 +4,6 @@ ghost use Rattle.rules.proofs.Validity.{valid_shows};
 ghost use Rattle.policies.specs.PolicyLemmas.{load_rises};
 
 use crate::call::ValidCall;
-use crate::node_work::node_work;
 use climb::RisingRule;
 
 #[derive(Drop)]
@@ -18,6 +17,6 @@ impl<P: Copy> RisingRule for NodeLoad<'_, '_, P> {
     ghost rises = { λ rule. load_rises (valid_shows _ _ _ rule.call.now.checked) };
 
     fn apply(&self, at: u32) -> u64 {
-        node_work(self.call, |task, _index| task.jobs_in(at))
+        self.call.node_work(|task, _index| task.jobs_in(at))
     }
 }

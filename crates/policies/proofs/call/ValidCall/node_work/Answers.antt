@@ -6,11 +6,11 @@ use Rattle.rules.proofs.Validity.{valid_shows, jitter_small}
 use Rattle.policies.specs.Busy.{share, work}
 use Rattle.policies.proofs.Numbered.{turn, turns_end}
 use Rattle.policies.proofs.Summing.{share_here, share_elsewhere, sum_goes_on}
-use Rattle.policies.proofs.node_work.node_work.Goals as goal
+use Rattle.policies.proofs.call.ValidCall.node_work.Goals as goal
 
 pub invariant_of-task : goal.invariant_of-task
 invariant_of-task g c =
-    let call = c.args.call.now in
+    let call = c.args.self.now in
     let v = valid_shows _ _ _ call.checked in
     let t = turn v.one_each c.into_iter-index-iterator.result (cc) (cc) (cc) c.loop-index.yielded c.loop-index.index-iterator c.loop-index.yielded_by c.next.new.self c.in-Some.is c.next.ensures.steps in
     let n = length c.loop-index.yielded in
@@ -21,7 +21,7 @@ invariant_of-task g c =
 
 pub loop-index-preserved-then-row-node : goal.loop-index-preserved-then-row-node
 loop-index-preserved-then-row-node g c = λ count tells.
-    let call = c.args.call.now in
+    let call = c.args.self.now in
     let rows = call.rows.now in
     let v = valid_shows _ _ _ call.checked in
     let t = turn v.one_each c.into_iter-index-iterator.result (cc) (cc) (cc) c.loop-index.yielded c.loop-index.index-iterator c.loop-index.yielded_by c.next.new.self c.in-Some.is c.next.ensures.steps in
@@ -35,7 +35,7 @@ loop-index-preserved-then-row-node g c = λ count tells.
 
 pub loop-index-preserved : goal.loop-index-preserved
 loop-index-preserved g c = λ count tells.
-    let call = c.args.call.now in
+    let call = c.args.self.now in
     let rows = call.rows.now in
     let v = valid_shows _ _ _ call.checked in
     let t = turn v.one_each c.into_iter-index-iterator.result (cc) (cc) (cc) c.loop-index.yielded c.loop-index.index-iterator c.loop-index.yielded_by c.next.new.self c.in-Some.is c.next.ensures.steps in
@@ -47,7 +47,7 @@ loop-index-preserved g c = λ count tells.
 pub returns : goal.returns
 unfolding work
 returns g c = λ count tells.
-    let call = c.args.call.now in
+    let call = c.args.self.now in
     let v = valid_shows _ _ _ call.checked in
     let e = turns_end v.one_each c.into_iter-index-iterator.result (cc) (cc) (cc) c.loop-index.yielded c.loop-index.index-iterator c.loop-index.yielded_by c.next.new.self c.in-None.is c.next.ensures.steps in
     rw (← e) (c.loop-index.invariant count tells)
