@@ -1,3 +1,4 @@
 pub mod Passing
+pub mod Numbered
 pub mod Summing
 pub mod Steps

@@ -1,14 +1,14 @@
--- A loop that tests each element, and stops at the first that fails.
-use Rattle.std.proofs.Common.{◌≡◌, ℕ, ◌+◌, ◌<◌, ◌≤◌, Bool, true, false, List, length, get_or, drop, add-one, drop-cons}
-use Rattle.std.proofs.lemmas.List.{drop_all}
-use Rattle.rules.specs.Rules.{each_passes}
+-- The test of a call, in the words of the library.
+use Rattle.std.proofs.Common.{◌≡◌, ℕ, Bool, ◌&&◌, ltb, eqb, List, [], ◌∷◌, length, refl}
+use Rattle.std.specs.List.{list_all}
+use Rattle.records.specs.declared.fields.Row.{Row}
+use Rattle.records.specs.Ranges.{row_fits}
+use Rattle.rules.specs.Rules.{each_passes, jitter_fits, valid}
 
-module _ {A : Type 0} (p : A → Bool) (xs : List A) (i : ℕ) (d : A) where
-  pub passes_more : i < length xs → p (get_or xs i d) ≡ true → each_passes p (drop i xs) ≡ each_passes p (drop (i + 1) xs)
-  passes_more h e = rw (add-one, drop-cons xs i d h, e)
+all_pass : {A : Type 0} (p : A → Bool) (xs : List A) → each_passes p xs ≡ list_all p xs
+all_pass p [] = refl
+all_pass p (x ∷ xs) = rw (all_pass p xs)
 
-  pub passes_fails : i < length xs → p (get_or xs i d) ≡ false → each_passes p (drop i xs) ≡ false
-  passes_fails h e = rw (drop-cons xs i d h, e)
-
-pub passes_all : {A : Type 0} (p : A → Bool) (xs : List A) (i : ℕ) → length xs ≤ i → each_passes p (drop i xs) ≡ true
-passes_all p xs i h = rw (drop_all i xs h)
+pub valid_tests : (rows : List Row) (js : List ℕ) (i : ℕ) → valid rows js i ≡ (ltb i (length rows) && eqb (length js) (length rows) && list_all jitter_fits js && list_all row_fits rows)
+unfolding valid
+valid_tests rows js i = rw (all_pass jitter_fits js, all_pass row_fits rows)

@@ -16,9 +16,9 @@ settled_small f limit w e = within_is (settled_limit f limit) (sym e)
 
 module _ (p : Policy) (rows : List Row) (js : List ℕ) (i : ℕ) where
   -- the demand, by the task that is asked for
-  pub demand_is : (q w at : ℕ) (a : Row) → at ≡ i → a ≡ row rows i → demand p rows js i q w ≡ a.step.blocking + p.own a q * a.step.cost + work rows i (λ k. cond (eqb k at) 0 (p.before a q (row rows k) (get_or js k 0) w))
+  pub demand_is : (q w : ℕ) (a : Row) → a ≡ row rows i → demand p rows js i q w ≡ a.step.blocking + p.own a q * a.step.cost + work rows i (λ k. cond (eqb k i) 0 (p.before a q (row rows k) (get_or js k 0) w))
   unfolding demand
-  demand_is q w at a e f = rw (e, f)
+  demand_is q w a e = rw e
 
   pub response_over : (q : ℕ) → None ≡ settled (demand p rows js i q) 4000000 → None ≡ response p rows js i q
   unfolding response

@@ -15,5 +15,5 @@ pub share_elsewhere : (rows : List Row) (i k n : ℕ) (r a : Row) → r ≡ row 
 share_elsewhere rows i k n r a e f h = rw (← e, ← f) (cond-false _ _ _ (ne_eqb _ _ h))
 
 -- one term more, where a sum stops at the largest u64
-pub sum_goes_on : (f : ℕ → ℕ) (n s t term : ℕ) → s ≡ min (sum_to f n) (2 ^ 64 - 1) → f n ≡ term → t ≡ min (s + min term (2 ^ 64 - 1)) (2 ^ 64 - 1) → t ≡ min (sum_to f (n + 1)) (2 ^ 64 - 1)
-sum_goes_on f n s t term e h g = let m = sum_more f n in omega arith
+pub sum_goes_on : (f : ℕ → ℕ) (n m s t term : ℕ) → m ≡ n + 1 → s ≡ min (sum_to f n) (2 ^ 64 - 1) → f n ≡ term → t ≡ min (s + min term (2 ^ 64 - 1)) (2 ^ 64 - 1) → t ≡ min (sum_to f m) (2 ^ 64 - 1)
+sum_goes_on f n m s t term l e h g = rw l (let m = sum_more f n in omega arith)

@@ -1,65 +1,40 @@
 // The demand up to the end of a start, as a rising rule: it settles where the start's last job is done.
-ghost use Rattle.std.specs.Prelude.{if◌then◌else◌, nat_eq};
 ghost use Rattle.policies.specs.Policy.{demand};
 ghost use Rattle.rules.proofs.Validity.{valid_shows};
 ghost use Rattle.policies.specs.PolicyLemmas.{demand_rises};
 
-use crate::node_call::NodeCall;
-use crate::node_work::{JobCount, node_work};
+use crate::call::ValidCall;
 use crate::scheduling::SchedulingPolicy;
-use crate::task::Task;
 use climb::RisingRule;
 
-// The jobs of the other tasks that go before the end of a start count: the task's own are counted apart.
 #[derive(Drop)]
-struct Before<P> {
-    policy: P,
-    task: Task,
-    asked: usize,
-    start: u32,
-    window: u32,
-}
-
-impl<P: SchedulingPolicy> JobCount for Before<P> {
-    ghost jobs = { λ s r j k. (if nat_eq k s.asked then 0 else P.SchedulingPolicy.shares.before s.task.row s.start r j s.window) };
-
-    fn count(&self, task: &Task, index: usize) -> u64 {
-        if index == self.asked {
-            0
-        } else {
-            self.policy
-                .before(&self.task, self.start, task, self.window)
-        }
-    }
-}
-
-#[derive(Drop)]
-pub(crate) struct Completion<P, C> {
-    pub(crate) policy: P,
-    pub(crate) call: C,
+pub(crate) struct Completion<'l, 'c, P> {
+    pub(crate) call: &'l ValidCall<'c, P>,
     pub(crate) start: u32,
 }
 
-impl<P: SchedulingPolicy + Copy, C: NodeCall> RisingRule for Completion<P, C> {
-    ghost gives = { λ s. demand P.SchedulingPolicy.shares (C.NodeCall.rows s.call) (C.NodeCall.jitters s.call) (C.NodeCall.asked s.call) s.start };
+impl<P: SchedulingPolicy + Copy> RisingRule for Completion<'_, '_, P> {
+    ghost gives = { λ s. demand P.SchedulingPolicy.shares s.call.now.rows.now s.call.now.jitters.now s.call.now.asked s.start };
 
-    ghost rises = { λ rule. demand_rises P.SchedulingPolicy.shares P.SchedulingPolicy.sound (valid_shows _ _ _ (C.NodeCall.checked rule.call)) rule.start };
+    ghost rises = { λ rule. demand_rises P.SchedulingPolicy.shares P.SchedulingPolicy.sound (valid_shows _ _ _ rule.call.now.checked) rule.start };
 
     fn apply(&self, at: u32) -> u64 {
-        let task = self.call.asked_task();
-        let before = Before {
-            policy: self.policy,
-            task,
-            asked: self.call.asked_index(),
-            start: self.start,
-            window: at,
-        };
-        let own = self
+        let call = self.call;
+        let task = call.asked_task();
+        let own = call
             .policy
             .own(&task, self.start)
             .saturating_mul(u64::from(task.row.step.cost));
+        // The task's own jobs are counted apart.
+        let others = call.node_work(|other, index| {
+            if index == call.asked {
+                0
+            } else {
+                call.policy.before(&task, self.start, &other, at)
+            }
+        });
         u64::from(task.row.step.blocking)
             .saturating_add(own)
-            .saturating_add(node_work(&self.call, &before))
+            .saturating_add(others)
     }
 }

@@ -5,7 +5,6 @@ mod call;
 mod checks;
 mod completion;
 mod jobs;
-mod node_call;
 mod node_load;
 mod node_work;
 mod scheduling;

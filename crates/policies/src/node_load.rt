@@ -1,38 +1,22 @@
-// The load of a node, as a rising rule: it settles in the node's busy period.
-ghost use Rattle.policies.specs.Busy.{arrivals, load};
+// The load of a node, as a rising rule: it settles in the node's busy period. Every job that comes in a window counts.
+ghost use Rattle.policies.specs.Busy.{load};
 ghost use Rattle.rules.proofs.Validity.{valid_shows};
 ghost use Rattle.policies.specs.PolicyLemmas.{load_rises};
 
-use crate::node_call::NodeCall;
-use crate::node_work::{JobCount, node_work};
-use crate::task::Task;
+use crate::call::ValidCall;
 use climb::RisingRule;
 
-// Every job that comes in a window counts.
 #[derive(Drop)]
-struct Arrivals {
-    window: u32,
+pub(crate) struct NodeLoad<'l, 'c, P> {
+    pub(crate) call: &'l ValidCall<'c, P>,
 }
 
-impl JobCount for Arrivals {
-    ghost jobs = { λ s r j _. arrivals r j s.window };
+impl<P: Copy> RisingRule for NodeLoad<'_, '_, P> {
+    ghost gives = { λ s. load s.call.now.rows.now s.call.now.jitters.now s.call.now.asked };
 
-    fn count(&self, task: &Task, _index: usize) -> u64 {
-        task.jobs_in(self.window)
-    }
-}
-
-#[derive(Drop)]
-pub(crate) struct NodeLoad<C> {
-    pub(crate) call: C,
-}
-
-impl<C: NodeCall> RisingRule for NodeLoad<C> {
-    ghost gives = { λ s. load (C.NodeCall.rows s.call) (C.NodeCall.jitters s.call) (C.NodeCall.asked s.call) };
-
-    ghost rises = { λ rule. load_rises (valid_shows _ _ _ (C.NodeCall.checked rule.call)) };
+    ghost rises = { λ rule. load_rises (valid_shows _ _ _ rule.call.now.checked) };
 
     fn apply(&self, at: u32) -> u64 {
-        node_work(&self.call, &Arrivals { window: at })
+        self.call.node_work(|task, _index| task.jobs_in(at))
     }
 }

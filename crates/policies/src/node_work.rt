@@ -1,33 +1,30 @@
 // The time that the tasks of a node ask of it, if some jobs of each count.
-ghost use Rattle.std.specs.Prelude.{◌≡◌, ℕ, ◌-◌, ◌^◌, min, slice_index, slice_index_or};
-ghost use Rattle.records.specs.declared.fields.Row.{Row};
-ghost use Rattle.rules.specs.Rules.{no_row};
+ghost use Rattle.std.specs.Prelude.{◌≡◌, ℕ, ◌-◌, ◌^◌, min};
 ghost use Rattle.policies.specs.Busy.{work};
+ghost use Rattle.policies.specs.Jobs.{Tells};
 
-use crate::node_call::NodeCall;
+use crate::call::ValidCall;
 use crate::task::Task;
 
-// How many jobs of each task count.
-pub(crate) trait JobCount {
-    // the jobs of a row with its jitter and its number
-    ghost jobs: { Self → Row → ℕ → ℕ → ℕ };
-
-    fn count(&self, task: &Task, index: usize) -> u64
-        ensures { result ≡ jobs self.now task.now.row task.now.jitter index };
-}
-
-// The sum over the tasks on the node of the task that is asked for; the largest u64 stands for anything that a u64 cannot hold.
-pub(crate) fn node_work<C: NodeCall, J: JobCount>(call: &C, counts: &J) -> u64
-    ensures { result ≡ min (work (C.rows call.now) (C.asked call.now) (λ k. J.jobs counts.now (slice_index_or (C.rows call.now) k no_row) (slice_index (C.jitters call.now) k) k)) (2 ^ 64 - 1) }
-{
-    let node = call.asked_task().row.step.node;
-    let mut sum: u64 = 0;
-    for index in 0..call.len() {
-        let task = call.task(index);
-        if task.row.step.node == node {
-            let cost = u64::from(task.row.step.cost);
-            sum = sum.saturating_add(counts.count(&task, index).saturating_mul(cost));
+impl<P: Copy> ValidCall<'_, P> {
+    // The sum over the tasks on the node of the task that is asked for, where `jobs` says how many of a task's jobs count;
+    // the largest u64 stands for anything that a u64 cannot hold.
+    pub(crate) fn node_work<F: Fn(Task, usize) -> u64>(&self, jobs: F) -> u64
+        requires { F.IsAlwaysCallable jobs }
+        ensures { (count : ℕ → ℕ) → Tells (F.post jobs) self.now.rows.now self.now.jitters.now count → result ≡ min (work self.now.rows.now self.now.asked count) (2 ^ 64 - 1) }
+    {
+        let node = self.asked_task().row.step.node;
+        let mut sum: u64 = 0;
+        for (index, (row, jitter)) in self.rows.iter().zip(self.jitters).enumerate() {
+            if row.step.node == node {
+                let task = Task {
+                    row: *row,
+                    jitter: *jitter,
+                };
+                let cost = u64::from(row.step.cost);
+                sum = sum.saturating_add(jobs(task, index).saturating_mul(cost));
+            }
         }
+        sum
     }
-    sum
 }

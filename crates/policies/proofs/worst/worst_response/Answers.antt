@@ -1,6 +1,7 @@
-use Rattle.std.proofs.Common.{sym, ◌∙◌}
-use Rattle.policies.specs.PolicyLemmas.{answer_invalid}
+use Rattle.std.proofs.Common.{rules}
+use Rattle.policies.specs.Policy.{answer}
 use Rattle.policies.proofs.worst.worst_response.Goals as goal
 
-pub returns-else-is_valid : goal.returns-else-is_valid
-returns-else-is_valid g c = sym (answer_invalid g.P.SchedulingPolicy.shares _ _ _ (sym c.is_valid.ensures ∙ c.if-is_valid.false))
+pub returns-in_err-new : goal.returns-in_err-new
+unfolding answer
+returns-in_err-new g c = search rules

@@ -1,13 +1,16 @@
-use Rattle.std.proofs.Common.{◌≡◌, ◌*◌, arith}
+use Rattle.std.proofs.Common.{◌≡◌, ◌*◌, cond, eqb, get_or, arith}
+use Rattle.std.proofs.lemmas.Bool.Decides.{nat_tests}
+use Rattle.rules.specs.Rules.{row}
 use Rattle.policies.proofs.Steps.{demand_is}
 use Rattle.policies.proofs.completion.CompletionRisingRule.apply.Goals as goal
 
 pub returns : goal.returns
 returns g c =
-    let call = c.args.self.now.call in
+    let call = c.args.self.now.call.now in
     let p = g.P.SchedulingPolicy.shares in
     let q = c.args.self.now.start in
     let a = c.asked_task-task.result.row in
-    let d = demand_is p (g.C.NodeCall.rows call) (g.C.NodeCall.jitters call) (g.C.NodeCall.asked call) q c.args.at c.asked_index.result a c.asked_index.ensures c.asked_task-task.ensures.row in
+    let d = demand_is p call.rows.now call.jitters.now call.asked q c.args.at a c.asked_task-task.ensures.row in
     let own : c.own.result * c.from.result ≡ p.own a q * a.step.cost = cc in
+    let rest = c.node_work-others.ensures (λ k. cond (eqb k call.asked) 0 (p.before a q (row call.rows.now k) (get_or call.jitters.now k 0) c.args.at)) (λ task k n e f h. rw (← e, ← f) (grind (arith, nat_tests))) in
     omega arith

@@ -1,6 +1,6 @@
 use Rattle.std.proofs.Common.{◌≡◌, ◌+◌, ◌-◌, ◌∙◌, arith}
 use Rattle.policies.proofs.Steps.{settled_small, response_over, response_done}
-use Rattle.policies.proofs.worst.response_of.Goals as goal
+use Rattle.policies.proofs.call.ValidCall.response_of.Goals as goal
 
 pub returns-in_err-completion : goal.returns-in_err-completion
 returns-in_err-completion g c =
@@ -14,11 +14,11 @@ overflow_cast-result g c =
 pub returns : goal.returns
 returns g c =
     let p = g.P.SchedulingPolicy.shares in
-    let call = c.args.call in
+    let call = c.args.self.now in
     let a = c.asked_task-task.result.row in
     let j = c.asked_task-task.result.jitter in
     let q = c.args.start in
     let w = c.in_ok-completion.completion in
-    let e = response_done p (g.C.NodeCall.rows call) (g.C.NodeCall.jitters call) (g.C.NodeCall.asked call) q j w a c.asked_task-task.ensures.row c.asked_task-task.ensures.jitter c.in_ok-completion.ensures.value in
+    let e = response_done p call.rows.now call.jitters.now call.asked q j w a c.asked_task-task.ensures.row c.asked_task-task.ensures.jitter c.in_ok-completion.ensures.value in
     let n : c.saturating_sub.result ≡ j + w - p.instant a q = omega arith in
     rw n e

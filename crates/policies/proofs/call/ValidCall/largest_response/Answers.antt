@@ -1,6 +1,6 @@
 use Rattle.std.proofs.Common.{◌≡◌, ◌∙◌, arith}
 use Rattle.policies.proofs.Steps.{largest_goes_on, worst_over, worst_is}
-use Rattle.policies.proofs.worst.largest_response.Goals as goal
+use Rattle.policies.proofs.call.ValidCall.largest_response.Goals as goal
 
 pub returns-in_err-response_of : goal.returns-in_err-response_of
 returns-in_err-response_of g c =
