@@ -1,5 +1,5 @@
 -- A line as far as it has come: the word, and the numbers behind it.
-use Rattle.std.proofs.Common.{◌≡◌, ℕ, ◌+◌, ◌<◌, ◌≤◌, List, [], ◌∷◌, ◌++◌, length, get_or, take, drop, sym, ap, ◌∙◌, arith, length-append, take_all}
+use Rattle.std.proofs.Common.{◌≡◌, ℕ, ◌+◌, ◌<◌, ◌≤◌, List, [], ◌∷◌, ◌++◌, length, get_or, decimal, take, drop, sym, ap, ◌∙◌, arith, length-append, length-set, take_all}
 use Rattle.std.proofs.lemmas.List.{take_more, flat_map_more, take-append-drop}
 use Rattle.std.proofs.lemmas.List.Concat.{flat_map-append}
 use Rattle.std.specs.List.{flat_map}
@@ -35,3 +35,12 @@ module _ (word ns : List ℕ) (k : ℕ) where
 
   pub length_line : length ns ≤ k → length (line_bytes word ns) ≡ length (so_far word ns k) + 1
   length_line all = ap length (so_far_end all) ∙ length-append (so_far word ns k) (10 ∷ [])
+
+-- the room that each write of a line needs, and that the whole takes
+pub word_room : (word ns : List ℕ) → length word + 1 ≤ length (line_bytes word ns)
+word_room word ns = let part = length_part word ns 0 in let same = length-append word [] in omega arith
+
+pub field_room : (word ns : List ℕ) (k : ℕ) → k < length ns → length (so_far word ns k) + length (decimal (get_or ns k 0)) + 2 ≤ length (line_bytes word ns)
+field_room word ns k inside = let more = length_more word ns k inside in let part = length_part word ns (k + 1) in omega arith
+
+pub ruleset line_room = (word_room, field_room, length_part, length_line, length-set)

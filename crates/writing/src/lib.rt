@@ -70,6 +70,7 @@ pub struct Line<'a> {
 impl Text for Line<'_> {
     ghost bytes = { λ line. line_bytes line.word.now line.fields.now };
 
+    #[tactic(auto, using(crate::proofs::Lines::line_room))]
     fn len(&self) -> usize {
         let mut len = self.word.len().saturating_add(1);
         for field in self.fields {
@@ -78,6 +79,7 @@ impl Text for Line<'_> {
         len
     }
 
+    #[tactic(auto, using(crate::proofs::Lines::line_room))]
     fn write(&self, buffer: &mut [u8], at: usize) -> usize {
         let mut end = self.word.write(buffer, at);
         for field in self.fields {
