@@ -1,5 +1,5 @@
 -- Each call's step of the law over runs.
-use Rattle.std.proofs.Common.{◌≡◌, ℕ, zero, suc, ◌<◌, ◌≤◌, Bool, true, false, cond, eqb, leb, ◌⊎◌, List, [], ◌∷◌, ◌++◌, length, get_or, take, Some, None, Option, sym, refl, ap, ◌∙◌, inl, inr, add_comm, arith, length-append, take_all, take-suc}
+use Rattle.std.proofs.Common.{◌≡◌, ℕ, zero, suc, ◌<◌, ◌≤◌, Bool, true, false, cond, eqb, leb, ◌⊎◌, List, [], ◌∷◌, ◌++◌, length, get_or, take, Some, None, Option, Ok, Err, sym, refl, ap, ◌∙◌, inl, inr, add_comm, arith, length-append, take_all, take-suc}
 use mathlib.Core.Bool.{false≢true}
 use Rattle.std.proofs.lemmas.List.{get_or_append_left, get_or_push}
 use Rattle.std.proofs.lemmas.Bool.{leb-true, le-leb, lt-leb, eqb-true, eq-eqb, cases_eq}
@@ -7,12 +7,11 @@ use Rattle.records.specs.declared.fields.StepFields.{StepFields}
 use Rattle.records.specs.declared.record.Chain.{Chain}
 use Rattle.rules.specs.Rules.{Meaning, Laws}
 use Rattle.rules.proofs.Lists.{under_from, under_at}
-use Rattle.law.specs.declared.answers.Answer.{Answer}
-use Rattle.law.specs.declared.answers.Answer.TheVariants.{Done, Refused}
+use Rattle.law.specs.declared.answers.Reply.TheVariants.{Done}
 use Rattle.law.specs.declared.answers.Refusal.{Refusal}
 use Rattle.law.specs.Assignments.{Held, rows_of, deadlines_of, jitters_of, Round, Rounds}
 use Rattle.law.specs.Refusals.{forgets}
-use Rattle.law.specs.Runs.{Call, Run, held, add_answer, drop_answer, recost_answer, Start, Solves, Tells, Lawful}
+use Rattle.law.specs.Runs.{Call, Answer, Run, held, add_answer, drop_answer, recost_answer, Start, Solves, Tells, Lawful}
 use Rattle.law.specs.Runs.Call.{add, drop, recost, solve, ask}
 use Rattle.law.specs.State.{Contents, new_plan, added, dropped, recosts, kept_within, behind, all_of, row_response, round, same, rounds_from, solving, solve_answer, solved_with, ask_answer, Leads, Keeps}
 use Rattle.law.specs.Determined.{Determined}
@@ -158,9 +157,9 @@ rounds_computed {answer} {cs} (Rounds.goes_on {xs} {ys} {n} {end} r ne rs) (suc 
 -- ## Add
 
 module _ (answer : Meaning) where
-  pub add_keeps : (s : Contents) (c : Chain) (steps : List StepFields) → Done ≡ add_answer s.chains c steps → Keeps answer s (add c steps) Done (added s c steps)
+  pub add_keeps : (s : Contents) (c : Chain) (steps : List StepFields) → Ok Done ≡ add_answer s.chains c steps → Keeps answer s (add c steps) (Ok Done) (added s c steps)
   add_keeps s c steps e h l =
-      let e : Done ≡ add_answer (held h) c steps = rw l.chains at e in
+      let e : Ok Done ≡ add_answer (held h) c steps = rw l.chains at e in
       record {
         lawful = (e, l.lawful);
         chains = rw l.chains;
@@ -169,7 +168,7 @@ module _ (answer : Meaning) where
       }
 
   -- a call that is refused, and forgets nothing, leads to the same plan
-  refused_keeps : (s : Contents) (call : Call) (why : Refusal) (h : Run) → forgets why ≡ false → Lawful answer ((call, Refused why) ∷ h) → Leads answer h s → Leads answer ((call, Refused why) ∷ h) s
+  refused_keeps : (s : Contents) (call : Call) (why : Refusal) (h : Run) → forgets why ≡ false → Lawful answer ((call, Err why) ∷ h) → Leads answer h s → Leads answer ((call, Err why) ∷ h) s
   refused_keeps s call why h f lawful l =
       record {
         lawful = lawful;
@@ -178,25 +177,25 @@ module _ (answer : Meaning) where
         stands = rw f l.stands;
       }
 
-  pub add_refused_keeps : (s : Contents) (c : Chain) (steps : List StepFields) (why : Refusal) → Refused why ≡ add_answer s.chains c steps → Keeps answer s (add c steps) (Refused why) s
+  pub add_refused_keeps : (s : Contents) (c : Chain) (steps : List StepFields) (why : Refusal) → Err why ≡ add_answer s.chains c steps → Keeps answer s (add c steps) (Err why) s
   add_refused_keeps s c steps why e h l = refused_keeps s (add c steps) why h (add_refusal_mild s.chains c steps why e) (rw l.chains at e, l.lawful) l
 
   -- ## Drop and recost
 
-  pub drop_keeps : (s : Contents) (i : ℕ) → Done ≡ drop_answer s.chains i → Keeps answer s (drop i) Done (dropped s i)
+  pub drop_keeps : (s : Contents) (i : ℕ) → Ok Done ≡ drop_answer s.chains i → Keeps answer s (drop i) (Ok Done) (dropped s i)
   drop_keeps s i e h l =
-      let e : Done ≡ drop_answer (held h) i = rw l.chains at e in
+      let e : Ok Done ≡ drop_answer (held h) i = rw l.chains at e in
       record { lawful = (e, l.lawful); chains = rw l.chains; starts = rw l.chains Start.after_drop; stands = refl }
 
-  pub drop_refused_keeps : (s : Contents) (i : ℕ) (why : Refusal) → Refused why ≡ drop_answer s.chains i → Keeps answer s (drop i) (Refused why) s
+  pub drop_refused_keeps : (s : Contents) (i : ℕ) (why : Refusal) → Err why ≡ drop_answer s.chains i → Keeps answer s (drop i) (Err why) s
   drop_refused_keeps s i why e h l = refused_keeps s (drop i) why h (drop_refusal_mild s.chains i why e) (rw l.chains at e, l.lawful) l
 
-  pub recost_keeps : (s : Contents) (i k cost : ℕ) → Done ≡ recost_answer s.chains i k cost → Keeps answer s (recost i k cost) Done (recosts s i k cost)
+  pub recost_keeps : (s : Contents) (i k cost : ℕ) → Ok Done ≡ recost_answer s.chains i k cost → Keeps answer s (recost i k cost) (Ok Done) (recosts s i k cost)
   recost_keeps s i k cost e h l =
-      let e : Done ≡ recost_answer (held h) i k cost = rw l.chains at e in
+      let e : Ok Done ≡ recost_answer (held h) i k cost = rw l.chains at e in
       record { lawful = (e, l.lawful); chains = rw l.chains; starts = rw l.chains Start.after_recost; stands = refl }
 
-  pub recost_refused_keeps : (s : Contents) (i k cost : ℕ) (why : Refusal) → Refused why ≡ recost_answer s.chains i k cost → Keeps answer s (recost i k cost) (Refused why) s
+  pub recost_refused_keeps : (s : Contents) (i k cost : ℕ) (why : Refusal) → Err why ≡ recost_answer s.chains i k cost → Keeps answer s (recost i k cost) (Err why) s
   recost_refused_keeps s i k cost why e h l = refused_keeps s (recost i k cost) why h (recost_refusal_mild s.chains i k cost why e) (rw l.chains at e, l.lawful) l
 
 -- ## Solve

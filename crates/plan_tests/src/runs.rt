@@ -1,6 +1,6 @@
 use crate::sample::{add, chain, number, step};
 use fixed::FixedPriority;
-use law::{Answer, Refusal, Timing};
+use law::{Refusal, Reply, Timing};
 use plan::{Plan, PlanCall, replay};
 use records::Chain;
 use std::test::Fail;
@@ -86,18 +86,18 @@ fn a_list_of_calls_is_answered_in_order(rt: HostRuntime) -> Result<(), Fail> {
     })?;
     calls.push(PlanCall::Solve)?;
     calls.push(PlanCall::Ask { id: 3, step: 1 })?;
-    let mut answers = [Answer::Done; 5];
+    let mut answers = [Ok(Reply::Done); 5];
     assert_eq!(rt; replay(FixedPriority, calls.as_slice(), &mut answers), 4);
-    assert_eq!(rt; answers[0], Answer::Refused(Refusal::IdUnknown));
-    assert_eq!(rt; answers[1], Answer::Done);
-    assert_eq!(rt; answers[2], Answer::Solved { rounds: 2 });
+    assert_eq!(rt; answers[0], Err(Refusal::IdUnknown));
+    assert_eq!(rt; answers[1], Ok(Reply::Done));
+    assert_eq!(rt; answers[2], Ok(Reply::Solved { rounds: 2 }));
     assert_eq!(rt;
         answers[3],
-        Answer::Told(Timing {
+        Ok(Reply::Told(Timing {
             jitter: 0,
             response: 4,
-        })
+        }))
     );
-    assert_eq!(rt; answers[4], Answer::Done);
+    assert_eq!(rt; answers[4], Ok(Reply::Done));
     Ok(())
 }
