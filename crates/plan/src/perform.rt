@@ -41,8 +41,9 @@ impl<R: NodeRule> Plan<R> {
         ensures run { (h : Run) → Leads (R.answer self.old.rule) h (contents self.old.table) → Leads (R.answer self.old.rule) (run_on (map meant (take result calls.now)) (take result answers.new) h) (contents self.new.table) }
     {
         let count = calls.len().min(answers.len());
-        for k in 0..count {
-            answers[k] = self.perform(&calls[k]);
+        // by an index: of answers written through `iter_mut` a proof knows the number, and not what they are
+        for (k, call) in calls[..count].iter().enumerate() {
+            answers[k] = self.perform(call);
         }
         count
     }
