@@ -2,7 +2,9 @@
 use Rattle.std.proofs.Common.{◌≡◌, ℕ, zero, suc, ◌+◌, ◌-◌, ◌≤◌, Bool, true, false, cond, not, eqb, leb, List, [], ◌∷◌, ◌++◌, map, length, replicate, is_some, Some, None, Option, Ok, Err, sym, refl, ap, ◌∙◌, true≢false, arith}
 use mathlib.Core.Bool.{false≢true}
 use lib.ListN.{length-map}
-use Rattle.std.proofs.lemmas.Bool.{leb-true, le-leb}
+use Rattle.std.proofs.lemmas.Bool.{not-true, leb-true, le-leb, cond_both}
+use Rattle.std.proofs.lemmas.Option.{none-some}
+use Rattle.std.specs.Result.{is_ok}
 use Rattle.records.specs.declared.fields.Row.{Row}
 use Rattle.records.specs.declared.fields.StepFields.{StepFields}
 use Rattle.records.specs.declared.record.Chain.{Chain}
@@ -24,12 +26,8 @@ use Rattle.law.proofs.Rounds.{least_same, Ready, Ends, ready_zeros, ready_least,
 
 -- ## Tests
 
-not_true : (b : Bool) → not b ≡ true → b ≡ false
-not_true true e = sym e
-not_true false e = refl
-
 not_refused : {why : Refusal} → Ok Done ≡ Err why → ⊥
-not_refused e = let z : ◌≡◌ {A = ℕ} 0 1 = cc in omega arith
+not_refused e = true≢false (ap is_ok e)
 
 pub need_done : (b : Bool) (why : Refusal) (rest : Answer) → Ok Done ≡ need b why rest → (b ≡ true) × (Ok Done ≡ rest)
 need_done true why rest e = (refl, e)
@@ -40,7 +38,7 @@ need_fields_done None rest e = (refl, e)
 need_fields_done (Some place) rest e = absurd (not_refused e)
 
 -- an answer is the one named, or a refusal that forgets nothing
-data OrRefused (wanted : Answer) : Answer → Type 0 where
+pub data OrRefused (wanted : Answer) : Answer → Type 0 where
   as_wanted : OrRefused wanted wanted
   refusal : {why : Refusal} → forgets why ≡ false → OrRefused wanted (Err why)
 
@@ -55,30 +53,21 @@ need_fields_or (Some place) rest o = refusal refl
 at_step_or : (cs : List Held) (i k : ℕ) {wanted : Answer} (rest : Answer) → OrRefused wanted rest → OrRefused wanted (at_step cs i k rest)
 at_step_or cs i k rest o = need_or (holds cs i) _ _ refl (need_or (within 1 (steps_of cs i) k) _ _ refl o)
 
-add_or : (cs : List Held) (c : Chain) (steps : List StepFields) → OrRefused (Ok Done) (add_answer cs c steps)
+pub add_or : (cs : List Held) (c : Chain) (steps : List StepFields) → OrRefused (Ok Done) (add_answer cs c steps)
 add_or cs c steps =
     need_fields_or (first_bad steps) _ (need_or (within 1 16 (length steps)) _ _ refl (need_or (leb (length cs + 1) 16) _ _ refl
     (need_or (leb (length (rows_of cs) + length steps) 64) _ _ refl (need_or (not (holds cs c.fields.id)) _ _ refl as_wanted))))
 
-drop_or : (cs : List Held) (i : ℕ) → OrRefused (Ok Done) (drop_answer cs i)
+pub drop_or : (cs : List Held) (i : ℕ) → OrRefused (Ok Done) (drop_answer cs i)
 drop_or cs i = need_or (holds cs i) _ _ refl as_wanted
 
-recost_or : (cs : List Held) (i k cost : ℕ) → OrRefused (Ok Done) (recost_answer cs i k cost)
+pub recost_or : (cs : List Held) (i k cost : ℕ) → OrRefused (Ok Done) (recost_answer cs i k cost)
 recost_or cs i k cost = at_step_or cs i k _ (need_or (within 1 1000000 cost) _ _ refl as_wanted)
 
 -- a refused add, drop or recost forgets nothing
-refusal_mild : {a : Answer} {why : Refusal} → OrRefused (Ok Done) a → Err why ≡ a → forgets why ≡ false
+pub refusal_mild : {a : Answer} {why : Refusal} → OrRefused (Ok Done) a → Err why ≡ a → forgets why ≡ false
 refusal_mild as_wanted e = absurd (not_refused (sym e))
 refusal_mild {why = why} (refusal {why = other} f) e = let s : why ≡ other = cc in rw s f
-
-pub add_refusal_mild : (cs : List Held) (c : Chain) (steps : List StepFields) (why : Refusal) → Err why ≡ add_answer cs c steps → forgets why ≡ false
-add_refusal_mild cs c steps why e = refusal_mild (add_or cs c steps) e
-
-pub drop_refusal_mild : (cs : List Held) (i : ℕ) (why : Refusal) → Err why ≡ drop_answer cs i → forgets why ≡ false
-drop_refusal_mild cs i why e = refusal_mild (drop_or cs i) e
-
-pub recost_refusal_mild : (cs : List Held) (i k cost : ℕ) (why : Refusal) → Err why ≡ recost_answer cs i k cost → forgets why ≡ false
-recost_refusal_mild cs i k cost why e = refusal_mild (recost_or cs i k cost) e
 
 -- ## The chains held are fine
 
@@ -93,7 +82,7 @@ rows_fit c (s ∷ steps) e = let w = both (bad_step_field s) e in (row_of_fits c
   where
     both : (o : Option ℕ) → ◌≡◌ {A = Option ℕ} (elim o [ Some place ↦ Some place | None ↦ first_bad steps ]) None → (o ≡ None) × (first_bad steps ≡ None)
     both None e = (refl, e)
-    both (Some place) e = let z : ◌≡◌ {A = ℕ} 0 1 = cc in absurd (omega arith)
+    both (Some place) e = absurd (none-some place (sym e))
 
 -- what an add that is done passed
 pub record AddDone (cs : List Held) (c : Chain) (steps : List StepFields) : Type 0 where
@@ -110,7 +99,7 @@ add_done cs c steps e =
     let (d, e) = need_done (leb (length cs + 1) 16) _ _ e in
     let (f, e) = need_done (leb (length (rows_of cs) + length steps) 64) _ _ e in
     let (g, e) = need_done (not (holds cs c.fields.id)) _ _ e in
-    record { fields = a; count = within_true 1 16 (length steps) b; chains = leb-true _ _ d; rows = leb-true _ _ f; new_id = not_true _ g }
+    record { fields = a; count = within_true 1 16 (length steps) b; chains = leb-true _ _ d; rows = leb-true _ _ f; new_id = not-true _ g }
 
 added_fine : (cs : List Held) (c : Chain) (steps : List StepFields) → AddDone cs c steps → Fine (holding c steps)
 added_fine cs c steps d =
@@ -159,20 +148,15 @@ recosted_fine k cost range c f =
       arrival = f.arrival;
     }
 
--- what holds of both sides holds of the side that a test takes
-pub either : {A : Type 0} (P : A → Type 0) (b : Bool) (x y : A) → P x → P y → P (cond b x y)
-either P true x y p q = p
-either P false x y p q = q
-
 -- what holds of each chain holds of each when one is dropped, or is recosted
 pub each_without : (P : Held → Type 0) (i : ℕ) (cs : List Held) → Each P cs → Each P (without i cs)
 each_without P i [] p = tt
-each_without P i (c ∷ cs) p = either (Each P) (eqb c.chain.id i) cs (c ∷ without i cs) p.1 (p.0, each_without P i cs p.1)
+each_without P i (c ∷ cs) p = cond_both (eqb c.chain.id i) cs (c ∷ without i cs) (Each P) (λ _. p.1) (λ _. (p.0, each_without P i cs p.1))
 
 pub each_recosted : (P : Held → Type 0) (i k cost : ℕ) (cs : List Held) → ((c : Held) → P c → P (recosted_chain k cost c)) → Each P cs → Each P (recosted i k cost cs)
 each_recosted P i k cost [] f p = tt
 each_recosted P i k cost (c ∷ cs) f p =
-    either (Each P) (eqb c.chain.id i) (recosted_chain k cost c ∷ cs) (c ∷ recosted i k cost cs) (f c p.0, p.1) (p.0, each_recosted P i k cost cs f p.1)
+    cond_both (eqb c.chain.id i) (recosted_chain k cost c ∷ cs) (c ∷ recosted i k cost cs) (Each P) (λ _. (f c p.0, p.1)) (λ _. (p.0, each_recosted P i k cost cs f p.1))
 
 -- ## What a right answer can be
 
