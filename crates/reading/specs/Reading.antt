@@ -6,11 +6,9 @@ use Rattle.records.specs.declared.fields.StepFields.{StepFields}
 use Rattle.records.specs.Ranges.{bad_chain_field, bad_step_field}
 use Rattle.mixed.specs.declared.letters.Letters.{Letters}
 use Rattle.mixed.specs.Letters.{all_E, with_letter}
-use Rattle.law.specs.declared.answers.Answer.{Answer}
-use Rattle.law.specs.declared.answers.Answer.TheVariants.{Done, Solved, Told, Refused}
 use Rattle.law.specs.declared.answers.Refusal.{Refusal}
 use Rattle.law.specs.Assignments.{Held}
-use Rattle.law.specs.Runs.{held_as, entry_answer}
+use Rattle.law.specs.Runs.{Answer, held_as, entry_answer}
 use Rattle.lines.specs.declared.faults.Fault.TheVariants as fault
 use Rattle.lines.specs.declared.faults.LineFault.{LineFault}
 use Rattle.lines.specs.declared.faults.TableFault.{TableFault}
@@ -91,10 +89,8 @@ step_answer given s =
 
 -- why a call is refused, if it is
 abbrev pub refusal_of : Answer → Option Refusal
-refusal_of Done = None
-refusal_of (Solved n) = None
-refusal_of (Told t) = None
-refusal_of (Refused why) = Some why
+refusal_of (Ok reply) = None
+refusal_of (Err why) = Some why
 
 -- a chain behind the others, unless the plan refuses it
 abbrev pub entered : Panel → Begun → Option Refusal → Result Panel LineFault

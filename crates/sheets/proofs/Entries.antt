@@ -4,11 +4,10 @@ use Rattle.std.proofs.lemmas.List.{length-append, length-map, map-append, take_a
 use Rattle.std.proofs.lemmas.Bool.{not-true, not_from_false, leb-true, le-leb, and_from}
 use Rattle.records.specs.Ranges.{within, chain_fits}
 use Rattle.records.proofs.InRange.{within_true}
-use Rattle.law.specs.declared.answers.Answer.{Answer}
-use Rattle.law.specs.declared.answers.Answer.TheVariants.{Done}
+use Rattle.law.specs.declared.answers.Reply.TheVariants.{Done}
 use Rattle.law.specs.declared.answers.Refusal.{Refusal}
 use Rattle.law.specs.Assignments.{Held, rows_of}
-use Rattle.law.specs.Runs.{held_as, holds, first_bad, need, need_fields, room_answer, entry_answer}
+use Rattle.law.specs.Runs.{Answer, held_as, holds, first_bad, need, need_fields, room_answer, entry_answer}
 use Rattle.lines.specs.declared.line.NodeLine.{NodeLine}
 use Rattle.lines.specs.Faults.{on_line}
 use Rattle.reading.specs.Reading.{Panel, Begun, refusal_of, entered, entry, with_chain}
@@ -79,10 +78,10 @@ room_passed cs id n h =
       new_id = sym (holds_has cs id) ∙ not-true _ d;
     }
 
-need_passes : (b : Bool) (why : Refusal) (rest : Answer) → b ≡ true → rest ≡ Done → need b why rest ≡ Done
+need_passes : (b : Bool) (why : Refusal) (rest : Answer) → b ≡ true → rest ≡ Ok Done → need b why rest ≡ Ok Done
 need_passes b why rest e h = ap (λ t. need t why rest) e ∙ h
 
-room_passes : (cs : List Written) (id n : ℕ) → Room cs id n → room_answer (map held_of cs) id n ≡ Done
+room_passes : (cs : List Written) (id n : ℕ) → Room cs id n → room_answer (map held_of cs) id n ≡ Ok Done
 room_passes cs id n r =
     need_passes _ _ _ (and_from _ _ (le-leb 1 n r.some_step) (le-leb n 16 r.few))
     (need_passes _ _ _ (le-leb (length (map held_of cs) + 1) 16 (omega (arith, length-map cs held_of)))
@@ -139,7 +138,7 @@ chain_passes xs cs n c ds k =
       few_steps = omega (arith, k.few_steps, all_steps_append cs (c ∷ ds));
       new_id = apart_before chain_id cs c ds k.ids_once;
     } in
-    let done : entry_answer p.chains c.fields c.steps ≡ Done = ap (λ o. need_fields o (room_answer p.chains c.fields.id (length c.steps))) (none_bad xs c.steps fits.steps) ∙ room_passes cs c.fields.id (length c.steps) room in
+    let done : entry_answer p.chains c.fields c.steps ≡ Ok Done = ap (λ o. need_fields o (room_answer p.chains c.fields.id (length c.steps))) (none_bad xs c.steps fits.steps) ∙ room_passes cs c.fields.id (length c.steps) room in
     mapped_passes (on_line n) (
     ap (λ ss. entry p (record { line = n; fields = c.fields; steps = ss })) all
     ∙ ap (λ a. entered p (record { line = n; fields = c.fields; steps = c.steps }) (refusal_of a)) done ∙ ap Ok (sym (panel_push xs cs c))

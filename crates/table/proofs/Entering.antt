@@ -7,7 +7,7 @@ use Rattle.records.specs.declared.fields.StepFields.{StepFields}
 use Rattle.edf.specs.declared.EarliestDeadline.{EarliestDeadline}
 use Rattle.fixed.specs.declared.FixedPriority.{FixedPriority}
 use Rattle.mixed.specs.declared.mixture.Mixed.{Mixed}
-use Rattle.law.specs.declared.answers.Answer.TheVariants.{Done, Refused}
+use Rattle.law.specs.declared.answers.Reply.TheVariants.{Done}
 use Rattle.law.specs.declared.answers.Refusal.{Refusal}
 use Rattle.law.specs.Assignments.{Held, rows_of, zeros}
 use Rattle.law.specs.Runs.{Run, row_of, held_as, add_answer}
@@ -36,10 +36,10 @@ zeros_push cs c =
 
 module _ (p q : TablePlan) (c : ChainBegun) (steps : List StepFields) (are : steps ≡ take c.count c.steps) where
   -- the plan refuses the chain
-  pub chain_refused : (why : Refusal) → Refused why ≡ add_answer (chains_of p.table) c.chain steps → Err (of_plan why) ≡ entry (panel_in p) (chain_in c)
+  pub chain_refused : (why : Refusal) → Err why ≡ add_answer (chains_of p.table) c.chain steps → Err (of_plan why) ≡ entry (panel_in p) (chain_in c)
   chain_refused why e = rw are at (ap (λ a. entered (panel_in p) (chain_in c) (refusal_of a)) e)
 
-  module _ (rule : q.rule ≡ p.rule) (done : Done ≡ add_answer (chains_of p.table) c.chain steps) (after : contents q.table ≡ added (contents p.table) c.chain steps) where
+  module _ (rule : q.rule ≡ p.rule) (done : Ok Done ≡ add_answer (chains_of p.table) c.chain steps) (after : contents q.table ≡ added (contents p.table) c.chain steps) where
     -- it takes the chain
     pub chain_entered : Ok (panel_in q) ≡ entry (panel_in p) (chain_in c)
     chain_entered =
@@ -47,7 +47,7 @@ module _ (p q : TablePlan) (c : ChainBegun) (steps : List StepFields) (are : ste
         let chains = ap (λ s. s.chains) after in
         rw (letters, chains, are) (rw are at (ap (λ a. entered (panel_in p) (chain_in c) (refusal_of a)) done))
 
-    pub still_unsolved : Unsolved p → Keeps (rule_of p.rule.letters) (contents p.table) (add c.chain steps) Done (contents q.table) → Unsolved q
+    pub still_unsolved : Unsolved p → Keeps (rule_of p.rule.letters) (contents p.table) (add c.chain steps) (Ok Done) (contents q.table) → Unsolved q
     still_unsolved u keeps =
         let cs = chains_of p.table in
         let held = held_as c.chain.fields steps in
@@ -55,7 +55,7 @@ module _ (p q : TablePlan) (c : ChainBegun) (steps : List StepFields) (are : ste
         let rows : length steps ≡ length held.rows = sym (length-map steps (row_of c.chain.fields.period)) in
         let new : (contents p.table).start ++ replicate (length steps) 0 ≡ zeros (cs ++ held ∷ []) = ap (λ xs. xs ++ replicate (length steps) 0) start ∙ ap (λ n. zeros cs ++ replicate n 0) rows ∙ zeros_push cs held in
         let with-start : List ℕ → Contents = λ xs. record { chains = cs ++ held ∷ []; start = xs; standing = None } in
-        let run : Run = (add c.chain steps, Done) ∷ u.run.0 in
+        let run : Run = (add c.chain steps, Ok Done) ∷ u.run.0 in
         record {
           unsolved = after ∙ ap with-start new ∙ ap anew (sym (ap (λ s. s.chains) after));
           run = (run, subst (λ (r : Mixed EarliestDeadline FixedPriority). Leads (rule_of r.letters) run (contents q.table)) (sym rule) (keeps u.run.0 u.run.1));
