@@ -20,7 +20,7 @@ pub(crate) fn line_at(text: &[u8], number: u32) -> &[u8] {
     let mut lines = TextCursor::new(text);
     let mut line: &[u8] = b"";
     for _ in 0..number {
-        line = lines.next_line().unwrap_or(b"");
+        line = lines.next().unwrap_or(b"");
     }
     line
 }
