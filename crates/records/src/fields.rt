@@ -1,4 +1,6 @@
 // Plain numbers, in range or not. Times are whole ticks.
+// None has a `Default`: a missing field is never read as zero.
+// The two deadlines are two types, so that neither can stand where the other is due.
 
 // A deadline counted from a step's release.
 #[derive(Clone, Copy, PartialEq, Eq, Debug)]
@@ -37,7 +39,7 @@ pub struct Row {
     pub step: StepFields,
 }
 
-// A field of a record is out of range; `place` counts the record's fields from 1.
+// A field of a record is out of range; `place` counts the record's fields from 1, as the fault of a line counts the line's.
 #[derive(Clone, Copy, PartialEq, Eq, Debug)]
 pub struct RecordFault {
     pub place: u32,

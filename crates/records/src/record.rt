@@ -1,4 +1,5 @@
 // The records: a value of these types has every field in its range.
+// They are two structs, not one generic over its fields: an accessor is all that they share, and a trait of fields would be longer than what it saves.
 ghost use Rattle.std.specs.Prelude.{◌≡◌, true};
 ghost use Rattle.records.specs.Ranges.{chain_fits, step_fits};
 
