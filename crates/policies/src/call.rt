@@ -39,6 +39,7 @@ impl<'c, P: Copy> ValidCall<'c, P> {
     }
 
     // The row that is asked for, with its jitter.
+    #[tactic(auto, using(rules::proofs::Validity::valid_shows))]
     pub(crate) fn asked_task(&self) -> Task
         ensures row { result.row ≡ row self.now.rows.now self.now.asked }
         ensures jitter { result.jitter ≡ slice_index self.now.jitters.now self.now.asked }

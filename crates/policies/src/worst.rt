@@ -16,7 +16,7 @@ const COMPLETION_LIMIT: u32 = 4_000_000;
 
 impl<P: SchedulingPolicy + Copy> ValidCall<'_, P> {
     // The response of one start, counted from its job's arrival, which is the jitter before the start's instant.
-    #[tactic(auto, unfolding(crate::specs::Policy::response))]
+    #[tactic(auto, using(climb::proofs::Settling::settled_limit, climb::proofs::Answers::within_is), unfolding(crate::specs::Policy::response))]
     fn response_of(&self, start: u32) -> Option<u32>
         ensures { result ≡ response P.SchedulingPolicy.shares self.now.rows.now self.now.jitters.now self.now.asked start }
     {
