@@ -26,6 +26,7 @@ impl<'c, P: Copy> ValidCall<'c, P> {
     ) -> Option<ValidCall<'c, P>>
         ensures { MatchOption result (valid rows.now jitters.now asked ≡ false) (λ call. (call.rows.now ≡ rows.now) × (call.jitters.now ≡ jitters.now) × (call.asked ≡ asked)) }
     {
+        // A closure under `then` would have to ask for the tested fact again.
         if is_valid(rows, jitters, asked) {
             Some(ValidCall {
                 policy,
