@@ -24,6 +24,7 @@ fn due_by(row: &Row, jitter: u32, instant: u64) -> u64
 }
 
 // How many jobs of a row are due by an instant at most, or `None` for a row of no period.
+#[tactic(auto, using(crate::specs::Laws::counted_due))]
 pub fn jobs_due(row: &Row, jitter: u32, instant: u32) -> Option<u64>
     ensures value { result ≡ due_if_periodic row.now jitter instant }
     ensures counts { CountsDue row.now jitter instant result }
@@ -70,11 +71,13 @@ impl SchedulingPolicy for EarliestDeadline {
     }
 }
 
+// Each rule says this for its own type: one `impl` for every policy would need a wrapper, which each caller would have to write.
 impl NodeRule for EarliestDeadline {
     ghost answer = { λ _. earliest_deadline };
 
     ghost lawful = { λ rule. deadline_laws };
 
+    #[tactic(auto, unfolding(crate::specs::Edf::earliest_deadline))]
     fn response(&self, rows: &[Row], jitters: &[u32], row: usize) -> Option<u32> {
         worst_response(*self, rows, jitters, row)
     }

@@ -18,6 +18,7 @@ impl SchedulingPolicy for FixedPriority {
     ghost sound = { priority_sound };
 
     // Start q is looked at exactly if its instant, q periods, lies in the busy period.
+    #[tactic(auto, using(policies::specs::RangesLemmas::ceil_le, policies::specs::RangesLemmas::ceil_counts, records::proofs::InRange::row_in_range))]
     fn starts(&self, task: &Task, busy: u32) -> u32
         ensures value { result ≡ by_priority.starts task.now.row busy }
         ensures inside { (q : ℕ) → (q < result) ↔ (q * task.now.row.period < busy) }
@@ -43,11 +44,13 @@ impl SchedulingPolicy for FixedPriority {
     }
 }
 
+// Each rule says this for its own type: one `impl` for every policy would need a wrapper, which each caller would have to write.
 impl NodeRule for FixedPriority {
     ghost answer = { λ _. fixed_priority };
 
     ghost lawful = { λ rule. fixed_laws };
 
+    #[tactic(auto, unfolding(crate::specs::Fixed::fixed_priority))]
     fn response(&self, rows: &[Row], jitters: &[u32], row: usize) -> Option<u32> {
         worst_response(*self, rows, jitters, row)
     }

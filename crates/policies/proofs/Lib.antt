@@ -1,4 +1,3 @@
 pub mod Passing
 pub mod Numbered
 pub mod Summing
-pub mod Steps

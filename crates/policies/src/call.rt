@@ -26,6 +26,7 @@ impl<'c, P: Copy> ValidCall<'c, P> {
     ) -> Option<ValidCall<'c, P>>
         ensures { MatchOption result (valid rows.now jitters.now asked ≡ false) (λ call. (call.rows.now ≡ rows.now) × (call.jitters.now ≡ jitters.now) × (call.asked ≡ asked)) }
     {
+        // A closure under `then` would have to ask for the tested fact again.
         if is_valid(rows, jitters, asked) {
             Some(ValidCall {
                 policy,
@@ -39,6 +40,7 @@ impl<'c, P: Copy> ValidCall<'c, P> {
     }
 
     // The row that is asked for, with its jitter.
+    #[tactic(auto, using(rules::proofs::Validity::valid_shows))]
     pub(crate) fn asked_task(&self) -> Task
         ensures row { result.row ≡ row self.now.rows.now self.now.asked }
         ensures jitter { result.jitter ≡ slice_index self.now.jitters.now self.now.asked }

@@ -8,12 +8,12 @@ use crate::scheduling::SchedulingPolicy;
 use climb::RisingRule;
 
 #[derive(Drop)]
-pub(crate) struct Completion<'l, 'c, P> {
-    pub(crate) call: &'l ValidCall<'c, P>,
+pub(crate) struct Completion<'c, P> {
+    pub(crate) call: &'c ValidCall<'c, P>,
     pub(crate) start: u32,
 }
 
-impl<P: SchedulingPolicy + Copy> RisingRule for Completion<'_, '_, P> {
+impl<P: SchedulingPolicy + Copy> RisingRule for Completion<'_, P> {
     ghost gives = { λ s. demand P.SchedulingPolicy.shares s.call.now.rows.now s.call.now.jitters.now s.call.now.asked s.start };
 
     ghost rises = { λ rule. demand_rises P.SchedulingPolicy.shares P.SchedulingPolicy.sound (valid_shows _ _ _ rule.call.now.checked) rule.start };

@@ -21,6 +21,7 @@ impl Task {
     }
 
     // How many periods begin in a window: its ticks over the period, rounded up.
+    #[tactic(auto, using(crate::specs::RangesLemmas::ceil_is, records::proofs::InRange::row_in_range))]
     pub fn periods_begun(&self, ticks: u64) -> u64
         ensures { result ≡ ceil ticks self.now.row.period }
     {

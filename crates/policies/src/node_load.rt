@@ -7,11 +7,11 @@ use crate::call::ValidCall;
 use climb::RisingRule;
 
 #[derive(Drop)]
-pub(crate) struct NodeLoad<'l, 'c, P> {
-    pub(crate) call: &'l ValidCall<'c, P>,
+pub(crate) struct NodeLoad<'c, P> {
+    pub(crate) call: &'c ValidCall<'c, P>,
 }
 
-impl<P: Copy> RisingRule for NodeLoad<'_, '_, P> {
+impl<P: Copy> RisingRule for NodeLoad<'_, P> {
     ghost gives = { λ s. load s.call.now.rows.now s.call.now.jitters.now s.call.now.asked };
 
     ghost rises = { λ rule. load_rises (valid_shows _ _ _ rule.call.now.checked) };

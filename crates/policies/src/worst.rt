@@ -16,6 +16,7 @@ const COMPLETION_LIMIT: u32 = 4_000_000;
 
 impl<P: SchedulingPolicy + Copy> ValidCall<'_, P> {
     // The response of one start, counted from its job's arrival, which is the jitter before the start's instant.
+    #[tactic(auto, using(climb::proofs::Settling::settled_limit, climb::proofs::Answers::within_is), unfolding(crate::specs::Policy::response))]
     fn response_of(&self, start: u32) -> Option<u32>
         ensures { result ≡ response P.SchedulingPolicy.shares self.now.rows.now self.now.jitters.now self.now.asked start }
     {
@@ -26,6 +27,7 @@ impl<P: SchedulingPolicy + Copy> ValidCall<'_, P> {
     }
 
     // The largest response over the starts of a busy period of so many ticks.
+    #[tactic(auto, unfolding(crate::specs::Policy::worst))]
     fn largest_response(&self, busy: u32) -> Option<u32>
         ensures { result ≡ worst P.SchedulingPolicy.shares self.now.rows.now self.now.jitters.now self.now.asked (Some busy) }
     {
@@ -37,6 +39,7 @@ impl<P: SchedulingPolicy + Copy> ValidCall<'_, P> {
     }
 
     // The worst-case response time that the call asks for.
+    #[tactic(auto, unfolding(crate::specs::Busy::busy, crate::specs::Policy::worst, crate::specs::Policy::answer))]
     fn worst(&self) -> Option<u32>
         ensures { result ≡ answer P.SchedulingPolicy.shares self.now.rows.now self.now.jitters.now self.now.asked }
     {
@@ -59,6 +62,7 @@ pub fn start_response<P: SchedulingPolicy + Copy>(
 }
 
 // The worst-case response time of a row, or `None` where it is over or the call is not valid.
+#[tactic(auto, unfolding(crate::specs::Policy::answer))]
 pub fn worst_response<P: SchedulingPolicy + Copy>(
     policy: P,
     rows: &[Row],

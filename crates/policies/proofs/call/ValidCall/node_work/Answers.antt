@@ -1,8 +1,4 @@
-use Rattle.std.proofs.Common.{◌≡◌, ℕ, ◌*◌, length, length-append, ap, ap₂, ◌∙◌, arith, true}
-use Rattle.records.specs.Ranges.{row_fits}
-use Rattle.rules.specs.Rules.{no_row}
-use Rattle.rules.proofs.Lists.{each_at}
-use Rattle.rules.proofs.Validity.{valid_shows, jitter_small}
+use Rattle.std.proofs.Common.{◌≡◌, ◌*◌, length, length-append, ap, ap₂, ◌∙◌, arith}
 use Rattle.policies.specs.Busy.{share, work}
 use Rattle.policies.proofs.Numbered.{turn, turns_end}
 use Rattle.policies.proofs.Summing.{share_here, share_elsewhere, sum_goes_on}
@@ -11,20 +7,14 @@ use Rattle.policies.proofs.call.ValidCall.node_work.Goals as goal
 pub invariant_of-task : goal.invariant_of-task
 invariant_of-task g c =
     let call = c.args.self.now in
-    let v = valid_shows _ _ _ call.checked in
-    let t = turn v.one_each c.into_iter-index-iterator.result (cc) (cc) (cc) c.loop-index.yielded c.loop-index.index-iterator c.loop-index.yielded_by c.next.new.self c.in-Some.is c.next.ensures.steps in
-    let n = length c.loop-index.yielded in
-    record {
-      in_range = rw t.row_is (each_at (λ r. row_fits r ≡ true) call.rows.now n no_row v.fits t.inside);
-      small = rw t.jitter_is (jitter_small v n t.inside);
-    }
+    let t = turn _ _ _ call.checked c.into_iter-index-iterator.result (cc) (cc) (cc) c.loop-index.yielded c.loop-index.index-iterator c.loop-index.yielded_by c.next.new.self c.in-Some.is c.next.ensures.steps in
+    record { in_range = t.in_range; small = t.small }
 
 pub loop-index-preserved-then-row-node : goal.loop-index-preserved-then-row-node
 loop-index-preserved-then-row-node g c = λ count tells.
     let call = c.args.self.now in
     let rows = call.rows.now in
-    let v = valid_shows _ _ _ call.checked in
-    let t = turn v.one_each c.into_iter-index-iterator.result (cc) (cc) (cc) c.loop-index.yielded c.loop-index.index-iterator c.loop-index.yielded_by c.next.new.self c.in-Some.is c.next.ensures.steps in
+    let t = turn _ _ _ call.checked c.into_iter-index-iterator.result (cc) (cc) (cc) c.loop-index.yielded c.loop-index.index-iterator c.loop-index.yielded_by c.next.new.self c.in-Some.is c.next.ensures.steps in
     let n = length c.loop-index.yielded in
     let r = c.in-Some.row.now in
     let e = share_here rows call.asked n (count n) r c.asked_task-node.result.row t.row_is c.asked_task-node.ensures.row c.if-row-node.true in
@@ -37,8 +27,7 @@ pub loop-index-preserved : goal.loop-index-preserved
 loop-index-preserved g c = λ count tells.
     let call = c.args.self.now in
     let rows = call.rows.now in
-    let v = valid_shows _ _ _ call.checked in
-    let t = turn v.one_each c.into_iter-index-iterator.result (cc) (cc) (cc) c.loop-index.yielded c.loop-index.index-iterator c.loop-index.yielded_by c.next.new.self c.in-Some.is c.next.ensures.steps in
+    let t = turn _ _ _ call.checked c.into_iter-index-iterator.result (cc) (cc) (cc) c.loop-index.yielded c.loop-index.index-iterator c.loop-index.yielded_by c.next.new.self c.in-Some.is c.next.ensures.steps in
     let n = length c.loop-index.yielded in
     let e = share_elsewhere rows call.asked n (count n) c.in-Some.row.now c.asked_task-node.result.row t.row_is c.asked_task-node.ensures.row c.if-row-node.false in
     let so_far = c.loop-index.invariant count tells in
@@ -48,6 +37,5 @@ pub returns : goal.returns
 unfolding work
 returns g c = λ count tells.
     let call = c.args.self.now in
-    let v = valid_shows _ _ _ call.checked in
-    let e = turns_end v.one_each c.into_iter-index-iterator.result (cc) (cc) (cc) c.loop-index.yielded c.loop-index.index-iterator c.loop-index.yielded_by c.next.new.self c.in-None.is c.next.ensures.steps in
+    let e = turns_end _ _ _ call.checked c.into_iter-index-iterator.result (cc) (cc) (cc) c.loop-index.yielded c.loop-index.index-iterator c.loop-index.yielded_by c.next.new.self c.in-None.is c.next.ensures.steps in
     rw (← e) (c.loop-index.invariant count tells)
