@@ -14,7 +14,8 @@ pub trait Text {
     fn len(&self) -> usize
         ensures { result ≡ min (length (bytes self.now)) (2 ^ 64 - 1) };
 
-    // Where there is room, the bytes from `at` on; it answers the place behind them.
+    // Where there is room, the bytes from `at` on; it answers the place behind them. The two stay apart: a struct of the buffer and the place would
+    // owe one clause more at every write, that it is the same buffer still.
     fn write(&self, buffer: &mut [u8], at: usize) -> usize
         requires { at + length (bytes self.now) ≤ length buffer.old }
         ensures value { result ≡ at + length (bytes self.now) }
