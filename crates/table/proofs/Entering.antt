@@ -16,7 +16,7 @@ use Rattle.law.specs.State.{Contents, added, anew, Leads, Keeps}
 use Rattle.law.proofs.MoreChains.{length_rows_append}
 use Rattle.plan.specs.Contents.{chains_of, contents}
 use Rattle.lines.specs.Faults.{of_plan}
-use Rattle.reading.specs.Reading.{entered, entry, refusal_of}
+use Rattle.reading.specs.Reading.{entered, entry}
 use Rattle.table.specs.declared.begun.ChainBegun.{ChainBegun}
 use Rattle.table.specs.Drafts.{TablePlan, rule_of, panel_in, chain_in, Unsolved}
 
@@ -37,7 +37,7 @@ zeros_push cs c =
 module _ (p q : TablePlan) (c : ChainBegun) (steps : List StepFields) (are : steps ≡ take c.count c.steps) where
   -- the plan refuses the chain
   pub chain_refused : (why : Refusal) → Err why ≡ add_answer (chains_of p.table) c.chain steps → Err (of_plan why) ≡ entry (panel_in p) (chain_in c)
-  chain_refused why e = rw are at (ap (λ a. entered (panel_in p) (chain_in c) (refusal_of a)) e)
+  chain_refused why e = rw are at (ap (entered (panel_in p) (chain_in c)) e)
 
   module _ (rule : q.rule ≡ p.rule) (done : Ok Done ≡ add_answer (chains_of p.table) c.chain steps) (after : contents q.table ≡ added (contents p.table) c.chain steps) where
     -- it takes the chain
@@ -45,7 +45,7 @@ module _ (p q : TablePlan) (c : ChainBegun) (steps : List StepFields) (are : ste
     chain_entered =
         let letters = ap (λ r. r.letters) rule in
         let chains = ap (λ s. s.chains) after in
-        rw (letters, chains, are) (rw are at (ap (λ a. entered (panel_in p) (chain_in c) (refusal_of a)) done))
+        rw (letters, chains, are) (rw are at (ap (entered (panel_in p) (chain_in c)) done))
 
     pub still_unsolved : Unsolved p → Keeps (rule_of p.rule.letters) (contents p.table) (add c.chain steps) (Ok Done) (contents q.table) → Unsolved q
     still_unsolved u keeps =
