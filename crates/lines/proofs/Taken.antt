@@ -1,7 +1,6 @@
 -- An accepted line is what its record is written as, and every written record is accepted.
 use Rattle.std.proofs.Common.{◌≡◌, ℕ, ◌<◌, Bool, true, false, cond, eqb, List, [], ◌∷◌, length, Some, None, Ok, Err, codes, decimal, Option, Result, sym, refl, ap, ◌∙◌, subst, arith}
 use Rattle.std.specs.Str.{bytes_eq}
-use Rattle.std.proofs.lemmas.Fmt.{digits_decimal}
 use Rattle.std.proofs.lemmas.List.Splits.{join_with_byte-slice_split}
 use Rattle.std.proofs.lemmas.Slice.Eq.{bytes_eq-Decides}
 use Rattle.std.proofs.lemmas.Bool.{eqb-true}
@@ -24,8 +23,8 @@ use Rattle.lines.specs.Numbers.{number_answer}
 use Rattle.lines.specs.Places.{letter_answer, placed, number_at, letter_at}
 use Rattle.lines.specs.Writing.{letter_bytes, written_fields, by_commas, line_bytes, numbers_of, Small, InverseOfWriting}
 use Rattle.lines.proofs.Chained.{goes_on}
-use Rattle.lines.proofs.Joining.{Clean, digits_clean, fields_joined}
-use Rattle.lines.proofs.Numerals.{inverse, written, own}
+use Rattle.lines.proofs.Joining.{fields_plain, fields_joined}
+use Rattle.lines.proofs.Numerals.{inverse, written}
 
 -- ## What acceptance shows
 
@@ -206,28 +205,10 @@ written_taken (Step x) s =
     (goes_on _ (number_back fs 6 x.blocking refl s.1.1.1.1.0) (goes_on _ (number_back fs 7 x.priority refl s.1.1.1.1.1.0) refl)))))))
     refl
 
-decimal_clean : (n : ℕ) → n < 10000000 → Clean (decimal n)
-decimal_clean n h = digits_clean (decimal n) (digits_decimal own n (omega arith))
-
-letter_clean : (l : Letter) → Clean (letter_bytes l)
-letter_clean E = (refl, tt)
-letter_clean P = (refl, tt)
-
-written_clean : (l : Line) → Small (numbers_of l) → fields_of (line_bytes l) ≡ written_fields l
-written_clean (Node x) s = fields_joined _ _ ((refl, (refl, (refl, (refl, tt)))), (decimal_clean _ s.0, (letter_clean x.letter, tt)))
-written_clean (Chain x) s =
-    fields_joined _ _ (
-      (refl, (refl, (refl, (refl, (refl, tt))))),
-      (decimal_clean _ s.0, (decimal_clean _ s.1.0, (decimal_clean _ s.1.1.0, (decimal_clean _ s.1.1.1.0, tt)))),
-    )
-written_clean (Step x) s =
-    fields_joined _ _ (
-      (refl, (refl, (refl, (refl, tt)))),
-      (
-        decimal_clean _ s.0,
-        (decimal_clean _ s.1.0, (decimal_clean _ s.1.1.0, (decimal_clean _ s.1.1.1.0, (decimal_clean _ s.1.1.1.1.0, (decimal_clean _ s.1.1.1.1.1.0, tt))))),
-      ),
-    )
+fields_back : (l : Line) → Small (numbers_of l) → fields_of (line_bytes l) ≡ written_fields l
+fields_back (Node x) s = fields_joined _ _ (fields_plain (Node x) s)
+fields_back (Chain x) s = fields_joined _ _ (fields_plain (Chain x) s)
+fields_back (Step x) s = fields_joined _ _ (fields_plain (Step x) s)
 
 -- an answer by the definition is the inverse of writing
 pub exactly : (r : Result Line LineFault) (bs : List ℕ) → r ≡ line_of bs → InverseOfWriting r bs
@@ -238,4 +219,4 @@ exactly r bs e l = (λ h. back (line_taken (fields_of bs) l (kind_named (at_plac
 
     there : bs ≡ line_bytes l → Small (numbers_of l) → line_of bs ≡ Ok l
     there w s =
-        ap (λ fs. line_as (kind_named (at_place fs 1)) fs) (ap fields_of w ∙ written_clean l s) ∙ sym (written_taken l s)
+        ap (λ fs. line_as (kind_named (at_place fs 1)) fs) (ap fields_of w ∙ fields_back l s) ∙ sym (written_taken l s)

@@ -28,14 +28,12 @@ pub fn number_in(field: &[u8]) -> Result<u32, Fault>
     ensures value { result ≡ number_answer field.now }
     ensures inverse { InverseOfWriting result field.now }
 {
-    if field.is_empty() {
+    let [first, rest @ ..] = field else {
         return Err(Fault::EmptyField);
+    };
+    if rest.len() < MOST_DIGITS && (*first != LEADING_ZERO || rest.is_empty()) {
+        digits_in(field)
+    } else {
+        Err(Fault::NotANumber)
     }
-    if field.len() > MOST_DIGITS {
-        return Err(Fault::NotANumber);
-    }
-    if field.len() > 1 && field[0] == LEADING_ZERO {
-        return Err(Fault::NotANumber);
-    }
-    digits_in(field)
 }
