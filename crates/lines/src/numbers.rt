@@ -8,7 +8,7 @@ const MOST_DIGITS: usize = 7;
 
 const LEADING_ZERO: u8 = b'0';
 
-// The number that at most seven digits write.
+// The number that at most seven digits write. A loop: no closure of a fold knows how many digits came before, so that the next sum fits.
 fn digits_in(digits: &[u8]) -> Result<u32, Fault>
     requires { length digits.now ≤ 7 }
     ensures { result ≡ digits_answer 0 digits.now }

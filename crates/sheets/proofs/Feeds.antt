@@ -8,7 +8,7 @@ use Rattle.lines.specs.Writing.{written_fields, by_commas, line_bytes, numbers_o
 use Rattle.lines.proofs.Ending.{all_ended, accepted_lines}
 use Rattle.lines.proofs.Joining.{Plain, without, fields_plain}
 use Rattle.sheets.specs.Sheets.{Every}
-use Rattle.sheets.proofs.Passing.{test_passed}
+use Rattle.lines.proofs.Passing.{test_passed}
 
 -- no byte is a line feed
 abbrev pub NoFeed : List ℕ → Type 0
