@@ -1,10 +1,5 @@
 // The lines and fields of a table's text, by name.
-#[derive(Clone, Copy, PartialEq, Eq, Debug)]
-pub(crate) enum Kind {
-    Node,
-    Chain,
-    Step,
-}
+use lines::{Kind, TextCursor};
 
 // A field's name, and its range in words.
 #[derive(Clone, Copy)]
@@ -15,26 +10,10 @@ pub(crate) struct FieldName {
 
 // The line of a number, counted from 1; an empty one if there is none.
 pub(crate) fn line_at(text: &[u8], number: u32) -> &[u8] {
-    let mut lines = text.split(|byte| *byte == b'\n');
-    match number.checked_sub(1) {
-        Some(before) => lines.nth(before as usize).unwrap_or(b""),
-        None => b"",
-    }
-}
-
-// How many fields a line has.
-pub(crate) fn field_count(line: &[u8]) -> usize {
-    line.split(|byte| *byte == b',').count()
-}
-
-// The kind of a line, by its first field.
-pub(crate) fn kind_of(line: &[u8]) -> Option<Kind> {
-    match line {
-        b"node" | [b'n', b'o', b'd', b'e', b',', ..] => Some(Kind::Node),
-        b"chain" | [b'c', b'h', b'a', b'i', b'n', b',', ..] => Some(Kind::Chain),
-        b"step" | [b's', b't', b'e', b'p', b',', ..] => Some(Kind::Step),
-        _ => None,
-    }
+    number
+        .checked_sub(1)
+        .and_then(|before| TextCursor::new(text).nth(before as usize))
+        .unwrap_or(b"")
 }
 
 // What stands in a field of a line of a kind.

@@ -1,7 +1,7 @@
 // Why a table is refused, in a sentence for whoever wrote it.
-use crate::fields::{FieldName, Kind, field_count, field_name, kind_of, line_at};
+use crate::fields::{FieldName, field_name, line_at};
 use law::Refusal;
-use lines::{Fault, TableFault};
+use lines::{Fault, Kind, TableFault, field_count, kind_of};
 use report::Verdict;
 use std::fmt;
 

@@ -40,10 +40,7 @@ pub fn report(text: &[u8], buffer: &mut [u8]) -> Result<Report, Refusal>
 {
     let mut reader = Reader::new();
     match reader.read(text) {
-        Ok(()) => {
-            let Reader { plan } = reader;
-            report_plan(plan, buffer)
-        }
+        Ok(()) => report_plan(reader.plan, buffer),
         Err(fault) => Ok(Report {
             verdict: Verdict::Faulty(fault),
             len: write_fault(&fault, buffer)?,

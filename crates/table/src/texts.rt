@@ -20,7 +20,7 @@ fn draft_of(text: &[u8]) -> Result<Draft, TableFault>
 {
     let mut draft = Draft::new();
     let mut lines = TextCursor::new(text);
-    while let Some(line) = lines.next_line() {
+    while let Some(line) = lines.next() {
         draft = draft.with_line(lines.number(), line)?;
     }
     Ok(draft)
