@@ -1,5 +1,5 @@
 -- The turns of the reader: one line after another.
-use Rattle.std.proofs.Common.{◌≡◌, ℕ, suc, ◌+◌, ◌<◌, ◌≤◌, Bool, true, false, cond, eqb, List, [], ◌∷◌, length, drop, Some, None, Ok, Err, sym, refl, ap, ◌∙◌, arith}
+use Rattle.std.proofs.Common.{◌≡◌, ℕ, suc, ◌+◌, ◌<◌, ◌≤◌, Bool, true, false, cond, eqb, List, [], ◌∷◌, length, Ok, Err, sym, refl, ap, ◌∙◌, arith}
 use Rattle.std.specs.List.{onto_first}
 use Rattle.lines.specs.declared.faults.TableFault.{TableFault}
 use Rattle.lines.specs.declared.text.TextCursor.{TextCursor}
@@ -8,7 +8,7 @@ use Rattle.lines.specs.Texts.{lines_of, lines_left, number_after}
 use Rattle.lines.proofs.Chained.{goes_on, stops}
 use Rattle.reading.specs.Reading.{of_nodes, no_node, line_taken, read_lines}
 use Rattle.table.specs.declared.draft.Draft.{Draft}
-use Rattle.table.specs.Drafts.{draft_in, Unsolved}
+use Rattle.table.specs.Drafts.{draft_in, UnsolvedSoFar}
 
 -- no more lines than bytes
 pub length_lines : (bs : List ℕ) → length (lines_of bs) ≤ length bs
@@ -24,9 +24,9 @@ length_lines (b ∷ bs) = by (eqb b 10) (lines_of bs) (length_lines bs)
 pub record Turn (text : List ℕ) (lines : TextCursor) (draft : Draft) : Type 0 where
   pub few : lines.number + length (lines_left lines) ≤ 32768
   pub rest : read_lines (lines.number + 1) (draft_in draft) (lines_left lines) ≡ read_lines 1 (of_nodes no_node) (lines_of text)
-  pub unsolved : Unsolved draft.plan
+  pub unsolved : UnsolvedSoFar draft
 
-pub turn_none : (text : List ℕ) (lines : TextCursor) (draft : Draft) → length text ≤ 32768 → lines_left lines ≡ lines_of text → lines.number ≡ 0 → draft_in draft ≡ of_nodes no_node → Unsolved draft.plan → Turn text lines draft
+pub turn_none : (text : List ℕ) (lines : TextCursor) (draft : Draft) → length text ≤ 32768 → lines_left lines ≡ lines_of text → lines.number ≡ 0 → draft_in draft ≡ of_nodes no_node → UnsolvedSoFar draft → Turn text lines draft
 turn_none text lines draft h left none new unsolved =
     let few = length_lines text in
     let same = ap length left in
@@ -58,7 +58,7 @@ module _ (text : List ℕ) (lines after : TextCursor) (draft : Draft) (t : Turn 
     pub turn_stops : (fault : TableFault) → Err fault ≡ line_taken n (draft_in draft) line → Err fault ≡ read_lines 1 (of_nodes no_node) (lines_of text)
     turn_stops fault e = stops _ (sym (rw same at e)) ∙ onward
 
-    pub turn_more : (next : Draft) → Ok (draft_in next) ≡ line_taken n (draft_in draft) line → Unsolved next.plan → Turn text after next
+    pub turn_more : (next : Draft) → Ok (draft_in next) ≡ line_taken n (draft_in draft) line → UnsolvedSoFar next → Turn text after next
     turn_more next e unsolved =
         let l = fewer in
         let k = one_on in
