@@ -16,6 +16,7 @@ fn due_by(row: &Row, jitter: u32, instant: u64) -> u64
     ensures { result ≡ due row.now jitter instant }
 {
     let local = u64::from(row.step.local.ticks);
+    // As the definition reads: `checked_sub` would hide the sum that it divides.
     if instant < local {
         0
     } else {
