@@ -19,8 +19,9 @@ impl<R: NodeRule> Plan<R> {
         if self.table.standing.is_none() {
             return Err(Refusal::NotSolved);
         }
-        let jitter = self.jitter(row, &self.table.responses);
-        let response = self.table.responses[row];
+        let responses = self.table.responses.as_slice();
+        let jitter = self.jitter(row, responses);
+        let response = responses[row];
         Ok(Timing { jitter, response })
     }
 }

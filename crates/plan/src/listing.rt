@@ -1,7 +1,7 @@
 // The listing: the rounds of the solve that stands, and a line for each row, as bytes.
 ghost use Rattle.std.specs.Prelude.{◌≡◌, ◌+◌, ◌-◌, ◌^◌, ◌<◌, ◌≤◌, min, [], ◌∷◌, length};
 ghost use Rattle.writing.specs.Writing.{line_bytes, put_at};
-ghost use Rattle.plan.specs.Contents.{chains_of, responses_of, contents};
+ghost use Rattle.plan.specs.Contents.{chains_of, contents};
 ghost use Rattle.plan.specs.Listing.{row_fields, rows_bytes, listing_bytes, listing_answer, listing_after};
 
 use crate::plan::Plan;
@@ -23,21 +23,22 @@ fn write_line(buffer: &mut [u8], at: usize, word: &[u8], fields: &[u32]) -> usiz
 impl<R> Plan<R> {
     // The numbers of a row's line.
     fn row_line(&self, row: usize) -> [u32; 4]
-        requires { row < self.now.table.row_count }
-        ensures { result ≡ row_fields (chains_of self.now.table) (responses_of self.now.table) row }
+        requires { row < length self.now.table.rows }
+        ensures { result ≡ row_fields (chains_of self.now.table) self.now.table.responses.items row }
     {
         let place = self.place(row);
         let step = place.step as u32 + 1;
-        let jitter = self.jitter(row, &self.table.responses);
-        [place.chain.id, step, jitter, self.table.responses[row]]
+        let responses = self.table.responses.as_slice();
+        let jitter = self.jitter(row, responses);
+        [place.chain.id, step, jitter, responses[row]]
     }
 
     // How many bytes the lines of the rows take; the largest usize stands for anything that a usize cannot hold.
     fn rows_len(&self) -> usize
-        ensures { result ≡ min (length (rows_bytes (contents self.now.table) self.now.table.row_count)) (2 ^ 64 - 1) }
+        ensures { result ≡ min (length (rows_bytes (contents self.now.table) (length self.now.table.rows))) (2 ^ 64 - 1) }
     {
         let mut len: usize = 0;
-        for row in 0..self.table.row_count {
+        for row in 0..self.table.rows.len() {
             len = len.saturating_add(line_len(b"step", &self.row_line(row)));
         }
         len
@@ -45,12 +46,12 @@ impl<R> Plan<R> {
 
     // Where there is room, the lines of the rows from `at` on.
     fn write_rows(&self, buffer: &mut [u8], at: usize) -> usize
-        requires { at + length (rows_bytes (contents self.now.table) self.now.table.row_count) ≤ length buffer.old }
-        ensures value { result ≡ at + length (rows_bytes (contents self.now.table) self.now.table.row_count) }
-        ensures after { buffer.new ≡ put_at buffer.old at (rows_bytes (contents self.now.table) self.now.table.row_count) }
+        requires { at + length (rows_bytes (contents self.now.table) (length self.now.table.rows)) ≤ length buffer.old }
+        ensures value { result ≡ at + length (rows_bytes (contents self.now.table) (length self.now.table.rows)) }
+        ensures after { buffer.new ≡ put_at buffer.old at (rows_bytes (contents self.now.table) (length self.now.table.rows)) }
     {
         let mut end = at;
-        for row in 0..self.table.row_count {
+        for row in 0..self.table.rows.len() {
             end = write_line(buffer, end, b"step", &self.row_line(row));
         }
         end

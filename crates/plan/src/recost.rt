@@ -30,11 +30,11 @@ impl<R: NodeRule> Plan<R> {
         if cost == 0 || cost > 1_000_000 {
             return Err(Refusal::CostOutOfRange);
         }
-        let old = self.table.rows[row];
+        let old = self.table.rows.as_slice()[row];
         let fields = StepFields { cost, ..old.step };
         let period = old.period;
         overwrite(
-            &mut self.table.rows[row],
+            &mut self.table.rows.places[row],
             Row {
                 period,
                 step: fields,

@@ -17,6 +17,6 @@ loop-row-preserved g c =
 pub returns : goal.returns
 returns g c =
     let t = c.args.self.now.table in
-    let end : c.loop-row.row ≡ t.row_count = omega arith in
+    let end : c.loop-row.row ≡ length t.rows = omega arith in
     let all = ap (λ n. length (rows_bytes (contents t) n)) end in
     omega (arith, c.loop-row.invariant)

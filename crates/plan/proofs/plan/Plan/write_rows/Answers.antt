@@ -1,7 +1,7 @@
 use Rattle.std.proofs.Common.{◌≡◌, ◌+◌, ◌≤◌, length, codes, sym, ap, ◌∙◌, add-zero, arith}
 use Rattle.writing.specs.Writing.{put_at, line_bytes}
 use Rattle.writing.proofs.Placed.{put_put, put_none, length_put}
-use Rattle.plan.specs.Contents.{chains_of, responses_of, contents}
+use Rattle.plan.specs.Contents.{chains_of, contents}
 use Rattle.plan.specs.Listing.{row_line, rows_bytes}
 use Rattle.plan.proofs.Listed.{rows_none, rows_more, length_rows_more, rows_part}
 use Rattle.plan.proofs.plan.Plan.write_rows.Goals as goal
@@ -15,7 +15,7 @@ write_line-end-requires g c =
     let k = c.loop-row.row in
     let more = length_rows_more s k in
     let line = ap (λ ns. length (line_bytes (codes "step") ns)) c.row_line.ensures in
-    let part = rows_part s (k + 1) c.args.self.now.table.row_count (omega arith) in
+    let part = rows_part s (k + 1) (length c.args.self.now.table.rows) (omega arith) in
     let same = length_put c.args.buffer.now c.args.at (rows_bytes s k) (omega (arith, c.requires)) in
     let now = ap length c.loop-row.invariant.1 in
     omega (arith, c.requires, c.loop-row.invariant.0)
@@ -31,7 +31,7 @@ loop-row-preserved g c =
     let line = ap (line_bytes (codes "step")) c.row_line.ensures in
     let size = ap length line in
     let inside : at ≤ length b = omega (arith, c.requires) in
-    let put = put_put b at (rows_bytes s k) (row_line (chains_of t) (responses_of t) k) inside in (
+    let put = put_put b at (rows_bytes s k) (row_line (chains_of t) t.responses.items k) inside in (
       omega (arith, c.write_line-end.ensures.value, c.loop-row.invariant.0),
       c.write_line-end.ensures.after ∙ rw (line, c.loop-row.invariant.1, c.loop-row.invariant.0) put ∙ ap (put_at b at) (sym (rows_more s k)),
     )
@@ -39,5 +39,5 @@ loop-row-preserved g c =
 pub returns : goal.returns
 returns g c =
     let t = c.args.self.now.table in
-    let end : c.loop-row.row ≡ t.row_count = omega arith in
+    let end : c.loop-row.row ≡ length t.rows = omega arith in
     record { value = rw end at c.loop-row.invariant.0; after = rw end at c.loop-row.invariant.1 }
