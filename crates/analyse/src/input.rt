@@ -10,38 +10,46 @@ const MOST_READ: u64 = 32_769;
 pub(crate) enum Source {
     Standard,
     Named(String),
+}
+
+#[derive(Drop)]
+pub(crate) enum Asked {
+    Analysis(Source),
     Help,
     // more than one argument, or an unknown option
     Unclear,
 }
 
+// What one argument asks for.
+fn asked_by(word: String) -> Asked {
+    match word.as_str() {
+        "--help" | "-h" => Asked::Help,
+        option if option.starts_with("-") => Asked::Unclear,
+        _ => Asked::Analysis(Source::Named(word)),
+    }
+}
+
 // What the arguments ask for.
-pub(crate) fn asked_for(rt: &HostRuntime) -> io::Result<Source> {
-    let mut args = env::args(rt)?;
-    let _program = args.next();
-    let Some(word) = args.next() else {
-        return Ok(Source::Standard);
-    };
-    if args.next().is_some() {
-        return Ok(Source::Unclear);
-    }
-    if word.as_str() == "--help" || word.as_str() == "-h" {
-        return Ok(Source::Help);
-    }
-    if word.as_str().starts_with("-") {
-        return Ok(Source::Unclear);
-    }
-    Ok(Source::Named(word))
+pub(crate) fn asked_for(rt: &HostRuntime) -> io::Result<Asked> {
+    let mut words = env::args(rt)?.skip(1);
+    Ok(match (words.next(), words.next()) {
+        (None, _) => Asked::Analysis(Source::Standard),
+        (Some(word), None) => asked_by(word),
+        (Some(_), Some(_)) => Asked::Unclear,
+    })
 }
 
 // The table's bytes, at most `MOST_READ` of them.
 pub(crate) fn read_table(rt: &HostRuntime, from: &Source) -> io::Result<Vec<u8>> {
     let mut table = Vec::new(rt.alloc());
-    if let Source::Named(path) = from {
-        let file = File::open(rt, path.as_str())?;
-        file.take(MOST_READ).read_to_end(&mut table)?;
-    } else {
-        rt.stdin().take(MOST_READ).read_to_end(&mut table)?;
+    match from {
+        Source::Named(path) => {
+            let file = File::open(rt, path.as_str())?;
+            file.take(MOST_READ).read_to_end(&mut table)?;
+        }
+        Source::Standard => {
+            rt.stdin().take(MOST_READ).read_to_end(&mut table)?;
+        }
     }
     Ok(table)
 }

@@ -7,8 +7,8 @@ mod sentences;
 #[cfg(test)]
 mod tests;
 
-use crate::input::{Source, asked_for, read_table};
-use crate::sentences::sentence;
+use crate::input::{Asked, Source, asked_for, read_table};
+use crate::sentences::sentence_on;
 use law::Refusal;
 use report::{Report, report};
 use std::io::Write;
@@ -33,7 +33,7 @@ docs/TEXT.md has the format of a table and every refusal.
 // Writes what is reported, and why it is a refusal if it is one.
 fn tell(rt: &HostRuntime, text: &[u8], told: &Report, bytes: &[u8]) -> anyhow::Result<ExitCode> {
     rt.stdout().write_all(bytes)?;
-    match sentence(rt.alloc(), text, &told.verdict)? {
+    match sentence_on(text, told.verdict) {
         Some(why) => {
             eprintln!(rt; "{why}")?;
             Ok(ExitCode::FAILURE)
@@ -67,14 +67,14 @@ fn short(rt: &HostRuntime, why: Refusal) -> anyhow::Result<ExitCode> {
 
 fn main(rt: HostRuntime) -> anyhow::Result<ExitCode> {
     match asked_for(&rt)? {
-        Source::Help => {
+        Asked::Help => {
             print!(rt; "{HELP}")?;
             Ok(ExitCode::SUCCESS)
         }
-        Source::Unclear => {
+        Asked::Unclear => {
             eprint!(rt; "{HELP}")?;
             Ok(ExitCode::FAILURE)
         }
-        from => analyse(&rt, &from),
+        Asked::Analysis(from) => analyse(&rt, &from),
     }
 }

@@ -1,9 +1,98 @@
 // Why a table is refused, in a sentence for whoever wrote it.
-use crate::fields::{LineKind, field_count, field_name, kind_of, line_at};
+use crate::fields::{FieldName, field_name, line_at};
 use law::Refusal;
-use lines::{Fault, TableFault};
+use lines::{Fault, Kind, TableFault, field_count, kind_of};
 use report::Verdict;
-use std::alloc::{AllocError, Global};
+use std::fmt;
+
+// Why a table is refused. It is displayed as a sentence.
+#[derive(Clone, Copy)]
+pub(crate) enum Sentence<'a> {
+    // the fault of a text, and the line in which it is
+    Faulty(TableFault, &'a [u8]),
+    // no assignment carries the chains
+    NothingCarries { rounds: u32 },
+}
+
+// Why a table is refused, if it is.
+pub(crate) fn sentence_on(text: &[u8], verdict: Verdict) -> Option<Sentence> {
+    match verdict {
+        Verdict::Listed => None,
+        Verdict::Faulty(why) => Some(Sentence::Faulty(why, line_at(text, why.line))),
+        Verdict::NothingCarries { rounds } => Some(Sentence::NothingCarries { rounds }),
+    }
+}
+
+impl fmt::Display for Sentence<'_> {
+    fn fmt<W: fmt::Write>(&self, f: &mut fmt::Formatter<W>) -> fmt::Result {
+        match self {
+            Sentence::Faulty(why, line) => write_text_fault(f, why, line),
+            Sentence::NothingCarries { rounds } => write!(
+                f,
+                "no response times carry the chains: in round {rounds} a step ends after its chain's end-to-end deadline, or a node has too much work"
+            ),
+        }
+    }
+}
+
+// Why a text is refused, with the number of the line.
+fn write_text_fault<W: fmt::Write>(
+    f: &mut fmt::Formatter<W>,
+    why: &TableFault,
+    line: &[u8],
+) -> fmt::Result {
+    if why.fault == Fault::TextTooLong {
+        return f.write_str("the text is longer than 32,768 bytes");
+    }
+    let number = why.line;
+    write!(f, "line {number}: ")?;
+    write_line_fault(f, why, line)
+}
+
+// What is wrong with a line.
+fn write_line_fault<W: fmt::Write>(
+    f: &mut fmt::Formatter<W>,
+    why: &TableFault,
+    line: &[u8],
+) -> fmt::Result {
+    let kind = kind_of(line);
+    match why.fault {
+        Fault::Plan(refusal) => f.write_str(chain_fault(refusal)),
+        Fault::NoLineFeed => f.write_str(
+            "the last line does not end in a line feed; the text may be cut off",
+        ),
+        Fault::UnknownKind if line.is_empty() => f.write_str("the line is empty"),
+        Fault::UnknownKind => f.write_str("the first field is none of node, chain and step"),
+        Fault::FieldCount => {
+            let due = fields_due(kind);
+            let count = field_count(line);
+            write!(f, "{due}, and this one has {count}")
+        }
+        Fault::Misplaced => f.write_str(place_fault(kind)),
+        Fault::Node => f.write_str(node_fault(kind)),
+        _ => write_field_fault(f, why, line),
+    }
+}
+
+// What is wrong with one field.
+fn write_field_fault<W: fmt::Write>(
+    f: &mut fmt::Formatter<W>,
+    why: &TableFault,
+    line: &[u8],
+) -> fmt::Result {
+    let field = why.field;
+    let FieldName { name, range } = field_name(kind_of(line), field);
+    write!(f, "{name} (field {field}) ")?;
+    match why.fault {
+        Fault::EmptyField => f.write_str("is empty"),
+        Fault::NotANumber | Fault::NotALetter if has_carriage_return(line, field) => {
+            f.write_str("ends in a carriage return; a line ends in a line feed alone")
+        }
+        Fault::NotANumber => f.write_str("is not a number of 1 to 7 digits, or has a leading zero"),
+        Fault::NotALetter => f.write_str("is neither E nor P"),
+        _ => write!(f, "is out of its range, {range}"),
+    }
+}
 
 // What is wrong with a chain as a whole.
 fn chain_fault(why: Refusal) -> &'static str {
@@ -17,100 +106,31 @@ fn chain_fault(why: Refusal) -> &'static str {
 }
 
 // What is wrong with the place of a line.
-fn place_fault(kind: Option<LineKind>) -> &'static str {
+fn place_fault(kind: Option<Kind>) -> &'static str {
     match kind {
-        Some(LineKind::Node) => "a node line may not stand behind a chain line",
+        Some(Kind::Node) => "a node line may not stand behind a chain line",
         _ => "a step line may not stand before the first chain line",
     }
 }
 
 // What is wrong with the node in field 2.
-fn node_fault(kind: Option<LineKind>) -> &'static str {
+fn node_fault(kind: Option<Kind>) -> &'static str {
     match kind {
-        Some(LineKind::Node) => "the node (field 2) has been given before",
+        Some(Kind::Node) => "the node (field 2) has been given before",
         _ => "the node (field 2) is not given by a node line",
     }
 }
 
 // How many fields a line of a kind has.
-fn fields_due(kind: Option<LineKind>) -> &'static str {
+fn fields_due(kind: Option<Kind>) -> &'static str {
     match kind {
-        Some(LineKind::Node) => "a node line has 3 fields",
-        Some(LineKind::Chain) => "a chain line has 5 fields",
+        Some(Kind::Node) => "a node line has 3 fields",
+        Some(Kind::Chain) => "a chain line has 5 fields",
         _ => "a step line has 7 fields",
     }
 }
 
 // The field is the last one, and the line ends in a carriage return, as some editors make it.
 fn has_carriage_return(line: &[u8], field: u32) -> bool {
-    line.last() == Some(&b'\r') && field_count(line) == field as usize
-}
-
-// What is wrong with one field.
-fn field_fault(heap: Global, line: &[u8], why: &TableFault) -> Result<String, AllocError> {
-    let field = why.field;
-    let named = field_name(kind_of(line), field);
-    let name = named.name;
-    let range = named.range;
-    match why.fault {
-        Fault::EmptyField => format!(in heap; "{name} (field {field}) is empty"),
-        Fault::NotANumber | Fault::NotALetter if has_carriage_return(line, field) =>
-            format!(in heap;
-                "{name} (field {field}) ends in a carriage return; a line ends in a line feed alone"
-            ),
-        Fault::NotANumber => format!(in heap;
-            "{name} (field {field}) is not a number of 1 to 7 digits, or has a leading zero"
-        ),
-        Fault::NotALetter => format!(in heap; "{name} (field {field}) is neither E nor P"),
-        _ => format!(in heap; "{name} (field {field}) is out of its range, {range}"),
-    }
-}
-
-// What is wrong with a line.
-fn line_fault(heap: Global, line: &[u8], why: &TableFault) -> Result<String, AllocError> {
-    let kind = kind_of(line);
-    match why.fault {
-        Fault::Plan(refusal) => String::from_str(heap, chain_fault(refusal)),
-        Fault::NoLineFeed => String::from_str(
-            heap,
-            "the last line does not end in a line feed; the text may be cut off",
-        ),
-        Fault::UnknownKind if line.is_empty() => String::from_str(heap, "the line is empty"),
-        Fault::UnknownKind => {
-            String::from_str(heap, "the first field is none of node, chain and step")
-        }
-        Fault::FieldCount => {
-            let due = fields_due(kind);
-            let count = field_count(line);
-            format!(in heap; "{due}, and this one has {count}")
-        }
-        Fault::Misplaced => String::from_str(heap, place_fault(kind)),
-        Fault::Node => String::from_str(heap, node_fault(kind)),
-        _ => field_fault(heap, line, why),
-    }
-}
-
-// Why a text is refused, with the line.
-fn text_fault(heap: Global, text: &[u8], why: &TableFault) -> Result<String, AllocError> {
-    if let Fault::TextTooLong = why.fault {
-        return String::from_str(heap, "the text is longer than 32,768 bytes");
-    }
-    let number = why.line;
-    let what = line_fault(heap, line_at(text, number), why)?;
-    format!(in heap; "line {number}: {what}")
-}
-
-// Why a table is refused, if it is.
-pub(crate) fn sentence(
-    heap: Global,
-    text: &[u8],
-    verdict: &Verdict,
-) -> Result<Option<String>, AllocError> {
-    match verdict {
-        Verdict::Listed => Ok(None),
-        Verdict::Faulty(why) => Ok(Some(text_fault(heap, text, why)?)),
-        Verdict::NothingCarries { rounds } => Ok(Some(format!(in heap;
-            "no response times carry the chains: in round {rounds} a step ends after its chain's end-to-end deadline, or a node has too much work"
-        )?)),
-    }
+    line.ends_with(b"\r") && field_count(line) == field as usize
 }

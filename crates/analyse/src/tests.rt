@@ -1,5 +1,5 @@
 // What is said of a refused table.
-use crate::sentences::sentence;
+use crate::sentences::sentence_on;
 use report::report;
 use std::process::Abort;
 use std::test::Fail;
@@ -8,9 +8,10 @@ use std::test::Fail;
 fn says(rt: &(impl Abort + AllocGlobal), text: &[u8], expected: &str) -> Result<(), Fail> {
     let mut buffer = [0; 64];
     let told = report(text, &mut buffer)?;
-    match sentence(rt.alloc(), text, &told.verdict)? {
+    match sentence_on(text, told.verdict) {
         Some(why) => {
-            assert_eq!(rt; why.as_str(), expected);
+            let said = format!(in rt.alloc(); "{why}")?;
+            assert_eq!(rt; said.as_str(), expected);
             Ok(())
         },
         None => Err(Fail::new("not refused")),

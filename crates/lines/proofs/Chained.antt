@@ -1,13 +1,12 @@
 -- Reading one field after another, up to the first fault.
-use Rattle.std.proofs.Common.{◌≡◌, ℕ, ◌+◌, List, IsErrAnd, Some, Ok, Err, Result, sym, refl, ap, ◌∙◌, Bor}
+use Rattle.std.proofs.Common.{◌≡◌, ℕ, ◌+◌, List, IsErrAnd, Ok, Err, Result, sym, refl, ap, ◌∙◌, Bor}
 use Rattle.std.proofs.lemmas.Result.{err_from_is_err_and}
-use Rattle.mixed.specs.declared.letters.Letter.{Letter}
 use Rattle.lines.specs.declared.cursor.Cursor.{Cursor}
+use Rattle.lines.specs.declared.faults.Fault.{Fault}
 use Rattle.lines.specs.declared.faults.LineFault.{LineFault}
-use Rattle.lines.specs.declared.line.Kind.{Kind}
 use Rattle.lines.specs.Fields.{fields_of, at_place}
-use Rattle.lines.specs.Lines.{◌then◌, counted, kind_named, line_as, line_of}
-use Rattle.lines.specs.Places.{number_at, letter_at, all_fields, Moved}
+use Rattle.lines.specs.Lines.{◌then◌}
+use Rattle.lines.specs.Places.{placed, all_fields, Moved}
 
 -- the cursor stands on this line, with these fields, after k of them
 pub record At (fields : List (List ℕ)) (k : ℕ) (c : Cursor) : Type 0 where
@@ -20,27 +19,18 @@ fields_behind line = fields_of line.now
 pub start : (c : Cursor) → c.field ≡ 1 → At (all_fields c) 1 c
 start c e = record { fields_are = refl; field = e }
 
--- after the first field, the kind word
-pub opened : (line : Bor (List ℕ)) (c d : Cursor) → c.line ≡ line → c.field ≡ 0 → Moved c d → At (fields_of line.now) 1 d
-opened line c d same none m =
-    record { fields_are = ap fields_behind (m.line ∙ same); field = m.field ∙ ap (λ j. j + 1) none }
-
-pub next : {fields : List (List ℕ)} {k : ℕ} {c d : Cursor} → At fields k c → Moved c d → At fields (k + 1) d
+next : {fields : List (List ℕ)} {k : ℕ} {c d : Cursor} → At fields k c → Moved c d → At fields (k + 1) d
 next a m =
     record {
       fields_are = ap fields_behind m.line ∙ a.fields_are;
       field = m.field ∙ ap (λ j. j + 1) a.field;
     }
 
-pub number_here : {fields : List (List ℕ)} {k : ℕ} {c : Cursor} {r s : Result ℕ LineFault} → At fields k c → r ≡ number_at (all_fields c) (c.field + 1) → r ≡ s → number_at fields (k + 1) ≡ s
-number_here {fields} {k} {c} a e f =
-    sym (ap (λ fs. number_at fs (c.field + 1)) a.fields_are ∙ ap (λ j. number_at fields (j + 1)) a.field)
-    ∙ sym e ∙ f
-
-pub letter_here : {fields : List (List ℕ)} {k : ℕ} {c : Cursor} {r s : Result Letter LineFault} → At fields k c → r ≡ letter_at (all_fields c) (c.field + 1) → r ≡ s → letter_at fields (k + 1) ≡ s
-letter_here {fields} {k} {c} a e f =
-    sym (ap (λ fs. letter_at fs (c.field + 1)) a.fields_are ∙ ap (λ j. letter_at fields (j + 1)) a.field)
-    ∙ sym e ∙ f
+-- what is read of the next field, by the line's own fields
+value_here : {X : Type 0} {fields : List (List ℕ)} {k : ℕ} {c : Cursor} {r : Result X LineFault} (answer : List ℕ → Result X Fault) → At fields k c → r ≡ placed (c.field + 1) (answer (at_place (all_fields c) (c.field + 1))) → placed (k + 1) (answer (at_place fields (k + 1))) ≡ r
+value_here {fields} {k} {c} answer a e =
+    sym (ap (λ fs. placed (c.field + 1) (answer (at_place fs (c.field + 1)))) a.fields_are ∙ ap (λ j. placed (j + 1) (answer (at_place fields (j + 1)))) a.field)
+    ∙ sym e
 
 -- ## Along a chain of readings
 
@@ -54,15 +44,12 @@ stops f e = sym (ap (λ s. ◌then◌ s f) e)
 pub handed_on : {Y F : Type 0} {fault : F} (r : Result Y F) → IsErrAnd r (λ y. y ≡ fault) → r ≡ Err fault
 handed_on r h = let p = err_from_is_err_and r h in p.1 ∙ ap Err p.2
 
--- ## The kind word, and the record after it
+-- ## From field to field
 
-pub word_here : (line : Bor (List ℕ)) (c : Cursor) (word : List ℕ) → c.line ≡ line → c.field ≡ 0 → word ≡ at_place (all_fields c) (c.field + 1) → word ≡ at_place (fields_of line.now) 1
-word_here line c word same none e =
-    e ∙ ap (λ l. at_place (fields_behind l) (c.field + 1)) same ∙ ap (λ j. at_place (fields_behind line) (j + 1)) none
+-- the next field gives a value, and what follows is read after it
+pub then_read : {X Y : Type 0} {fields : List (List ℕ)} {k : ℕ} {c d : Cursor} {r : Result X LineFault} {x : X} {y : Result Y LineFault} (answer : List ℕ → Result X Fault) (f : X → Result Y LineFault) → At fields k c → r ≡ placed (c.field + 1) (answer (at_place (all_fields c) (c.field + 1))) → Moved c d → r ≡ Ok x → (At fields (k + 1) d → y ≡ f x) → y ≡ ◌then◌ (placed (k + 1) (answer (at_place fields (k + 1)))) f
+then_read answer f a e m is h = goes_on f (value_here answer a e ∙ is) (h (next a m))
 
-pub kind_here : (bs word : List ℕ) (k j : Kind) → j ≡ k → Some j ≡ kind_named word → word ≡ at_place (fields_of bs) 1 → line_as (Some k) (fields_of bs) ≡ line_of bs
-kind_here bs word k j same e w = ap (λ o. line_as o (fields_of bs)) (sym (ap Some same) ∙ e ∙ ap kind_named w)
-
-pub record_here : {X : Type 0} {fields : List (List ℕ)} {c : Cursor} {r s : Result X LineFault} (count : ℕ) (reads : List (List ℕ) → Result X LineFault) → At fields 1 c → r ≡ counted count (all_fields c) (reads (all_fields c)) → r ≡ s → counted count fields (reads fields) ≡ s
-record_here {fields} count reads a e f =
-    sym (ap (λ fs. counted count fs (reads fs)) a.fields_are) ∙ sym e ∙ f
+-- the next field gives a fault
+pub then_stop : {X Y : Type 0} {fields : List (List ℕ)} {k : ℕ} {c : Cursor} {r : Result X LineFault} {fault : LineFault} (answer : List ℕ → Result X Fault) (f : X → Result Y LineFault) → At fields k c → r ≡ placed (c.field + 1) (answer (at_place (all_fields c) (c.field + 1))) → r ≡ Err fault → Err fault ≡ ◌then◌ (placed (k + 1) (answer (at_place fields (k + 1)))) f
+then_stop answer f a e is = stops f (value_here answer a e ∙ is)

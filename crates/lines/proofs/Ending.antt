@@ -1,26 +1,28 @@
 -- The lines of a text, one after another, and its last line.
-use Rattle.std.proofs.Common.{◌≡◌, ℕ, suc, ◌-◌, ◌<◌, ◌≤◌, Bool, true, false, cond, eqb, leb, List, [], ◌∷◌, length, get_or, is_ok, Ok, Err, Result, sym, refl, ap, ◌∙◌, true≢false, arith}
+use Rattle.std.proofs.Common.{◌≡◌, ℕ, suc, ◌-◌, ◌<◌, ◌≤◌, Bool, true, false, cond, eqb, leb, List, [], ◌∷◌, length, get_or, not, take, drop, ◌+◌, ap₂, is_ok, Ok, Err, Result, sym, refl, ap, ◌∙◌, true≢false, arith}
+use Rattle.std.specs.List.{onto_first, prefix_len}
 use Rattle.std.proofs.lemmas.List.{nil_from_length}
+use Rattle.std.proofs.lemmas.List.Splits.{length-slice_split}
 use Rattle.std.proofs.lemmas.Bool.{eqb-true, le-leb, lt-leb, cond-true, cond-false}
 use Rattle.lines.specs.declared.faults.Fault.TheVariants.{TextTooLong, NoLineFeed}
 use Rattle.lines.specs.declared.faults.TableFault.{TableFault}
 use Rattle.lines.specs.Faults.{fault_at, on_line}
-use Rattle.lines.specs.Fields.{in_first, parted, first_of, rest_of}
+use Rattle.lines.specs.Fields.{parted, first_of, rest_of}
 use Rattle.lines.specs.Texts.{lines_of, ended_lines, ended, text_answer}
-use Rattle.lines.proofs.Parting.{some_field, in_first_length}
+use Rattle.lines.proofs.Parting.{first_more, rest_more}
 
 pub line_here : (bs : List ℕ) → 0 < length bs → lines_of bs ≡ first_of 10 bs ∷ lines_of (rest_of 10 bs)
 line_here [] h = absurd (omega arith)
-line_here (b ∷ []) h = by (eqb b 10)
+line_here (b ∷ bs) h = by (eqb b 10) (prefix_len (λ c. not (eqb c 10)) bs) (onward bs (line_here bs))
   where
-    by : (t : Bool) → cond t ([] ∷ []) ((b ∷ []) ∷ []) ≡ cond t [] (b ∷ []) ∷ lines_of (cond t [] [])
-    by true = refl
-    by false = refl
-line_here (b ∷ c ∷ bs) h = by (eqb b 10) (line_here (c ∷ bs) (omega arith))
-  where
-    by : (t : Bool) → lines_of (c ∷ bs) ≡ first_of 10 (c ∷ bs) ∷ lines_of (rest_of 10 (c ∷ bs)) → cond t ([] ∷ lines_of (c ∷ bs)) (in_first b (lines_of (c ∷ bs))) ≡ cond t [] (b ∷ first_of 10 (c ∷ bs)) ∷ lines_of (cond t (c ∷ bs) (rest_of 10 (c ∷ bs)))
-    by true e = refl
-    by false e = ap (in_first b) e
+    -- what the rest of the line is, at its end too
+    onward : (cs : List ℕ) → (0 < length cs → lines_of cs ≡ first_of 10 cs ∷ lines_of (rest_of 10 cs)) → onto_first b (lines_of cs) ≡ (b ∷ first_of 10 cs) ∷ lines_of (rest_of 10 cs)
+    onward [] e = refl
+    onward (c ∷ cs) e = ap (onto_first b) (e (omega arith))
+
+    by : (t : Bool) (n : ℕ) → onto_first b (lines_of bs) ≡ (b ∷ take n bs) ∷ lines_of (drop (n + 1) bs) → cond t ([] ∷ lines_of bs) (onto_first b (lines_of bs)) ≡ take (cond (not t) (1 + n) 0) (b ∷ bs) ∷ lines_of (drop (cond (not t) (1 + n) 0 + 1) (b ∷ bs))
+    by true n e = refl
+    by false n e = e ∙ ap₂ (λ f r. f ∷ lines_of r) (first_more b n bs) (rest_more b n bs)
 
 pub no_line : (bs : List ℕ) → length bs ≡ 0 → lines_of bs ≡ []
 no_line bs h = ap lines_of (nil_from_length bs h)
@@ -38,15 +40,19 @@ ended_at (b ∷ c ∷ bs) h =
 pub empty_ended : (bs : List ℕ) → length bs ≡ 0 → true ≡ ended bs
 empty_ended bs h = ap ended (sym (nil_from_length bs h))
 
+onto_first_length : (b : ℕ) (ls : List (List ℕ)) → 0 < length ls → length (onto_first b ls) ≡ length ls
+onto_first_length b [] h = absurd (omega arith)
+onto_first_length b (l ∷ ls) h = refl
+
 -- where the last line is not ended, there are as many lines as parts
 pub unended_count : (bs : List ℕ) → ended bs ≡ false → length (lines_of bs) ≡ length (parted 10 bs)
 unended_count [] e = absurd (true≢false e)
 unended_count (b ∷ []) e = ap (λ t. length (cond t ([] ∷ []) ((b ∷ []) ∷ []))) e ∙ sym (ap (λ t. length (cond t ([] ∷ [] ∷ []) ((b ∷ []) ∷ []))) e)
-unended_count (b ∷ c ∷ bs) e = by (eqb b 10) (lines_of (c ∷ bs)) (parted 10 (c ∷ bs)) (some_field 10 (c ∷ bs)) (unended_count (c ∷ bs) e)
+unended_count (b ∷ c ∷ bs) e = by (eqb b 10) (lines_of (c ∷ bs)) (parted 10 (c ∷ bs)) _ (length-slice_split (λ d. eqb d 10) (c ∷ bs)) (unended_count (c ∷ bs) e)
   where
-    by : (t : Bool) (ls ps : List (List ℕ)) → 0 < length ps → length ls ≡ length ps → length (cond t ([] ∷ ls) (in_first b ls)) ≡ length (cond t ([] ∷ ps) (in_first b ps))
-    by true ls ps some h = ap suc h
-    by false ls ps some h = in_first_length 10 b ls (omega arith) ∙ h ∙ sym (in_first_length 10 b ps some)
+    by : (t : Bool) (ls ps : List (List ℕ)) (k : ℕ) → length ps ≡ k + 1 → length ls ≡ length ps → length (cond t ([] ∷ ls) (onto_first b ls)) ≡ length (cond t ([] ∷ ps) (onto_first b ps))
+    by true ls ps k some h = ap suc h
+    by false ls ps k some h = onto_first_length b ls (omega arith) ∙ h ∙ sym (onto_first_length b ps (omega arith))
 
 -- ## The tests of a whole text
 
@@ -62,12 +68,12 @@ all_ended bs h e = sym (cond-true _ _ _ (le-leb (length bs) 32768 h) ∙ cond-tr
 
 -- ## An accepted text is its lines, each ended
 
-joined_lines : (bs : List ℕ) → ended bs ≡ true → ended_lines (lines_of bs) ≡ bs
+pub joined_lines : (bs : List ℕ) → ended bs ≡ true → ended_lines (lines_of bs) ≡ bs
 joined_lines [] e = refl
 joined_lines (b ∷ []) e = ap (λ t. ended_lines (cond t ([] ∷ []) ((b ∷ []) ∷ []))) e ∙ ap (λ c. c ∷ []) (sym (eqb-true b 10 e))
 joined_lines (b ∷ c ∷ bs) e = by (eqb b 10) refl (lines_of (c ∷ bs)) (joined_lines (c ∷ bs) e)
   where
-    by : (t : Bool) → eqb b 10 ≡ t → (ls : List (List ℕ)) → ended_lines ls ≡ c ∷ bs → ended_lines (cond t ([] ∷ ls) (in_first b ls)) ≡ b ∷ c ∷ bs
+    by : (t : Bool) → eqb b 10 ≡ t → (ls : List (List ℕ)) → ended_lines ls ≡ c ∷ bs → ended_lines (cond t ([] ∷ ls) (onto_first b ls)) ≡ b ∷ c ∷ bs
     by true f ls h = ap (λ xs. 10 ∷ xs) h ∙ ap (λ d. d ∷ c ∷ bs) (sym (eqb-true b 10 f))
     by false f [] h = let z : ◌≡◌ {A = ℕ} 0 1 = cc in absurd (omega arith)
     by false f (l ∷ ls) h = ap (λ xs. b ∷ xs) h

@@ -2,6 +2,7 @@
 use Rattle.std.proofs.Common.{◌≡◌, ℕ, ◌<◌, Bool, true, false, cond, eqb, List, [], ◌∷◌, length, Some, None, Ok, Err, codes, decimal, Option, Result, sym, refl, ap, ◌∙◌, subst, arith}
 use Rattle.std.specs.Str.{bytes_eq}
 use Rattle.std.proofs.lemmas.Fmt.{digits_decimal}
+use Rattle.std.proofs.lemmas.List.Splits.{join_with_byte-slice_split}
 use Rattle.std.proofs.lemmas.Slice.Eq.{bytes_eq-Decides}
 use Rattle.std.proofs.lemmas.Bool.{eqb-true}
 use Rattle.mixed.specs.declared.letters.Letter.{Letter}
@@ -23,7 +24,7 @@ use Rattle.lines.specs.Numbers.{number_answer}
 use Rattle.lines.specs.Places.{letter_answer, placed, number_at, letter_at}
 use Rattle.lines.specs.Writing.{letter_bytes, written_fields, by_commas, line_bytes, numbers_of, Small, InverseOfWriting}
 use Rattle.lines.proofs.Chained.{goes_on}
-use Rattle.lines.proofs.Joining.{Clean, digits_clean, fields_joined, joined_fields}
+use Rattle.lines.proofs.Joining.{Clean, digits_clean, fields_joined}
 use Rattle.lines.proofs.Numerals.{inverse, written, own}
 
 -- ## What acceptance shows
@@ -233,7 +234,7 @@ pub exactly : (r : Result Line LineFault) (bs : List ℕ) → r ≡ line_of bs �
 exactly r bs e l = (λ h. back (line_taken (fields_of bs) l (kind_named (at_place (fields_of bs) 1)) refl (sym e ∙ h)), λ w. e ∙ there w.0 w.1)
   where
     back : FieldsOf (fields_of bs) l → (bs ≡ line_bytes l) × Small (numbers_of l)
-    back p = (sym (joined_fields bs) ∙ ap by_commas p.0, p.1)
+    back p = (sym (join_with_byte-slice_split 44 bs) ∙ ap by_commas p.0, p.1)
 
     there : bs ≡ line_bytes l → Small (numbers_of l) → line_of bs ≡ Ok l
     there w s =

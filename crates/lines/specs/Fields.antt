@@ -1,15 +1,10 @@
 -- The fields of a line: its bytes, parted at the commas. Assumes nothing.
-use Rattle.std.specs.Prelude.{ℕ, zero, suc, ◌-◌, cond, List, [], ◌∷◌, ◌==◌, slice_index_or}
-
--- a byte in front of the first part
-abbrev pub in_first : ℕ → List (List ℕ) → List (List ℕ)
-in_first b [] = (b ∷ []) ∷ []
-in_first b (f ∷ fs) = (b ∷ f) ∷ fs
+use Rattle.std.specs.Prelude.{ℕ, zero, suc, ◌-◌, List, [], ◌==◌, slice_index_or}
+use Rattle.std.specs.List.{slice_split, before_first, after_first}
 
 -- bytes parted at every separator: one part more than there are separators
 abbrev pub parted : ℕ → List ℕ → List (List ℕ)
-parted separator [] = [] ∷ []
-parted separator (b ∷ bs) = cond (b == separator) ([] ∷ parted separator bs) (in_first b (parted separator bs))
+parted separator bytes = slice_split (λ b. b == separator) bytes
 
 -- the fields of a line, parted at commas; a line without bytes is one empty field
 abbrev pub fields_of : List ℕ → List (List ℕ)
@@ -23,13 +18,11 @@ at_place fields k = slice_index_or fields (k - 1) []
 
 -- the bytes before the first separator
 abbrev pub first_of : ℕ → List ℕ → List ℕ
-first_of separator [] = []
-first_of separator (b ∷ bs) = cond (b == separator) [] (b ∷ first_of separator bs)
+first_of separator bytes = before_first (λ b. b == separator) bytes
 
 -- the bytes after the first separator, none where there is none
 abbrev pub rest_of : ℕ → List ℕ → List ℕ
-rest_of separator [] = []
-rest_of separator (b ∷ bs) = cond (b == separator) bs (rest_of separator bs)
+rest_of separator bytes = after_first (λ b. b == separator) bytes
 
 -- the bytes after k fields
 abbrev pub skipped : ℕ → List ℕ → List ℕ

@@ -61,6 +61,10 @@ kind_named word =
     cond (bytes_eq word (codes "node")) (Some kind.Node)
     (cond (bytes_eq word (codes "chain")) (Some kind.Chain) (cond (bytes_eq word (codes "step")) (Some kind.Step) None))
 
+-- the kind of a line, by its first field
+abbrev pub line_kind : List ℕ → Option Kind
+line_kind bytes = kind_named (at_place (fields_of bytes) 1)
+
 -- 13 for no kind; else the count of fields, and then each field from left to right
 abbrev pub line_as : Option Kind → List (List ℕ) → Result Line LineFault
 line_as None fields = Err (fault_at 1 UnknownKind)
@@ -70,4 +74,4 @@ line_as (Some kind.Step) fields = counted 7 fields (step_of fields) then λ step
 
 -- what the bytes of a line are read as
 abbrev pub line_of : List ℕ → Result Line LineFault
-line_of bytes = line_as (kind_named (at_place (fields_of bytes) 1)) (fields_of bytes)
+line_of bytes = line_as (line_kind bytes) (fields_of bytes)

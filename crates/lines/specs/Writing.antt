@@ -1,5 +1,6 @@
 -- How a record is written as a line, and that reading is the inverse of it. Assumes nothing.
-use Rattle.std.specs.Prelude.{◌≡◌, ℕ, ◌<◌, List, [], ◌∷◌, ◌++◌, Ok, codes, decimal, Result}
+use Rattle.std.specs.Prelude.{◌≡◌, ℕ, ◌<◌, List, [], ◌∷◌, Ok, codes, decimal, Result}
+use Rattle.std.specs.List.{join_with_byte}
 use Rattle.mixed.specs.declared.letters.Letter.{Letter}
 use Rattle.mixed.specs.declared.letters.Letter.TheVariants.{E, P}
 use Rattle.lines.specs.declared.faults.LineFault.{LineFault}
@@ -19,9 +20,7 @@ written_fields (Step x) =
 
 -- fields with a comma between one and the next
 abbrev pub by_commas : List (List ℕ) → List ℕ
-by_commas [] = []
-by_commas (f ∷ []) = f
-by_commas (f ∷ g ∷ fs) = f ++ 44 ∷ by_commas (g ∷ fs)
+by_commas fields = join_with_byte 44 fields
 
 -- the bytes that a record is written as
 abbrev pub line_bytes : Line → List ℕ

@@ -1,6 +1,6 @@
 // Why a table's text is not taken, and where.
 ghost use Rattle.std.specs.Prelude.{◌≡◌};
-ghost use Rattle.lines.specs.Faults.{number_of, in_record, of_plan, on_line};
+ghost use Rattle.lines.specs.Faults.{number_of, fault_at, in_record, of_plan, on_line};
 
 use law::Refusal;
 use records::RecordFault;
@@ -49,10 +49,7 @@ impl From<RecordFault> for LineFault {
     ghost from_gives = { λ fault r. r ≡ in_record fault };
 
     fn from(fault: RecordFault) -> LineFault {
-        LineFault {
-            fault: Fault::Record(fault),
-            field: fault.place.saturating_add(1),
-        }
+        Fault::Record(fault).at(fault.place.saturating_add(1))
     }
 }
 
@@ -61,10 +58,7 @@ impl From<Refusal> for LineFault {
     ghost from_gives = { λ why r. r ≡ of_plan why };
 
     fn from(why: Refusal) -> LineFault {
-        LineFault {
-            fault: Fault::Plan(why),
-            field: 0,
-        }
+        Fault::Plan(why).at(0)
     }
 }
 
@@ -82,6 +76,13 @@ impl LineFault {
 }
 
 impl Fault {
+    // The fault with the place of its field.
+    pub(crate) fn at(self, field: u32) -> LineFault
+        ensures { result ≡ fault_at field self }
+    {
+        LineFault { fault: self, field }
+    }
+
     // The number under which the manuals list the fault.
     pub fn number(&self) -> u32
         ensures { result ≡ number_of self.now }

@@ -7,7 +7,7 @@ ghost use Rattle.lines.specs.Places.{all_fields};
 use crate::cursor::Cursor;
 use crate::faults::{Fault, LineFault};
 use crate::line::NodeLine;
-use crate::parts::part_count;
+use crate::reading::field_count;
 use records::{ChainFields, EndToEndDeadline, LocalDeadline, StepFields};
 
 // A kind of line: how many fields it has, the kind word counted, and the record that the others make.
@@ -16,13 +16,9 @@ pub(crate) trait LineKind {
 
     const FIELDS: usize;
 
-    ghost count: { ℕ };
+    ghost FIELDS: { ℕ };
 
     ghost reads: { List (List ℕ) → Result Self.Record Refused };
-
-    // `FIELDS`, which no contract can name.
-    fn due() -> usize
-        ensures { result ≡ count };
 
     // Reads the fields after the kind word.
     fn read(cursor: &mut Cursor) -> Result<Self::Record, LineFault>
@@ -41,17 +37,13 @@ impl LineKind for NodeKind {
 
     const FIELDS: usize = 3;
 
-    ghost count = { 3 };
+    ghost FIELDS = { 3 };
 
     ghost reads = { node_of };
 
-    fn due() -> usize {
-        Self::FIELDS
-    }
-
     fn read(cursor: &mut Cursor) -> Result<NodeLine, LineFault> {
-        let node = cursor.number()?;
-        let letter = cursor.letter()?;
+        let node = cursor.value()?;
+        let letter = cursor.value()?;
         Ok(NodeLine { node, letter })
     }
 }
@@ -61,19 +53,15 @@ impl LineKind for ChainKind {
 
     const FIELDS: usize = 5;
 
-    ghost count = { 5 };
+    ghost FIELDS = { 5 };
 
     ghost reads = { chain_of };
 
-    fn due() -> usize {
-        Self::FIELDS
-    }
-
     fn read(cursor: &mut Cursor) -> Result<ChainFields, LineFault> {
-        let id = cursor.number()?;
-        let period = cursor.number()?;
-        let ticks = cursor.number()?;
-        let arrival_jitter = cursor.number()?;
+        let id = cursor.value()?;
+        let period = cursor.value()?;
+        let ticks = cursor.value()?;
+        let arrival_jitter = cursor.value()?;
         Ok(ChainFields {
             id,
             period,
@@ -88,21 +76,17 @@ impl LineKind for StepKind {
 
     const FIELDS: usize = 7;
 
-    ghost count = { 7 };
+    ghost FIELDS = { 7 };
 
     ghost reads = { step_of };
 
-    fn due() -> usize {
-        Self::FIELDS
-    }
-
     fn read(cursor: &mut Cursor) -> Result<StepFields, LineFault> {
-        let node = cursor.number()?;
-        let cost = cursor.number()?;
-        let ticks = cursor.number()?;
-        let delay = cursor.number()?;
-        let blocking = cursor.number()?;
-        let priority = cursor.number()?;
+        let node = cursor.value()?;
+        let cost = cursor.value()?;
+        let ticks = cursor.value()?;
+        let delay = cursor.value()?;
+        let blocking = cursor.value()?;
+        let priority = cursor.value()?;
         Ok(StepFields {
             node,
             cost,
@@ -118,13 +102,10 @@ impl Cursor<'_> {
     // The record of a line of kind K, after its kind word.
     pub(crate) fn record<K: LineKind>(&mut self) -> Result<K::Record, LineFault>
         requires { self.old.field ≡ 1 }
-        ensures { result ≡ counted K.LineKind.count (all_fields self.old) (K.LineKind.reads (all_fields self.old)) }
+        ensures { result ≡ counted K.FIELDS (all_fields self.old) (K.reads (all_fields self.old)) }
     {
-        if part_count(self.line, b',') != K::due() {
-            return Err(LineFault {
-                fault: Fault::FieldCount,
-                field: 0,
-            });
+        if field_count(self.line) != K::FIELDS {
+            return Err(Fault::FieldCount.at(0));
         }
         K::read(self)
     }

@@ -11,11 +11,12 @@ mod places;
 mod reading;
 mod text;
 mod texts;
+mod values;
 
 pub use faults::{Fault, LineFault, TableFault};
-pub use line::{Line, NodeLine};
+pub use line::{Kind, Line, NodeLine};
 pub use numbers::number_in;
 pub use places::letter_in;
-pub use reading::read_line;
+pub use reading::{field_count, kind_of, read_line};
 pub use text::TextCursor;
 pub use texts::check_text;

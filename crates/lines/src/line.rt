@@ -3,8 +3,8 @@ use mixed::Letter;
 use records::{ChainFields, StepFields};
 
 // The kinds of lines, named by the first field.
-#[derive(Clone, Copy)]
-pub(crate) enum Kind {
+#[derive(Clone, Copy, PartialEq, Eq, Debug)]
+pub enum Kind {
     Node,
     Chain,
     Step,

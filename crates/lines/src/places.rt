@@ -1,13 +1,12 @@
 // What stands in the field before a cursor.
 ghost use Rattle.std.specs.Prelude.{◌≡◌, ◌+◌, ◌<◌};
-ghost use Rattle.lines.specs.Faults.{fault_at};
 ghost use Rattle.lines.specs.Fields.{at_place};
-ghost use Rattle.lines.specs.Places.{letter_answer, number_at, letter_at, all_fields, Moved};
+ghost use Rattle.lines.specs.Places.{letter_answer, placed, all_fields, Moved};
 
 use crate::cursor::Cursor;
 use crate::faults::{Fault, LineFault};
-use crate::numbers::number_in;
-use crate::parts::{after_part, first_part};
+use crate::parts::cut;
+use crate::values::FieldValue;
 use mixed::Letter;
 
 // The letter that a field is.
@@ -38,49 +37,24 @@ impl<'a> Cursor<'a> {
         }
     }
 
-    // A fault at the last field read.
-    pub(crate) fn fault(&self, fault: Fault) -> LineFault
-        ensures { result ≡ fault_at self.now.field fault }
-    {
-        LineFault {
-            fault,
-            field: self.field,
-        }
-    }
-
     // The next field.
     pub(crate) fn field(&mut self) -> &'a [u8]
         requires { self.old.field < 7 }
         ensures value { result.now ≡ at_place (all_fields self.old) (self.old.field + 1) }
         ensures after { Moved self.old self.new }
     {
-        let field = first_part(self.rest, b',');
-        self.rest = after_part(self.rest, b',');
+        let (field, rest) = cut(self.rest, b',');
+        self.rest = rest;
         self.field += 1;
         field
     }
 
-    // The next field as a number.
-    pub(crate) fn number(&mut self) -> Result<u32, LineFault>
+    // The next field as a value.
+    pub(crate) fn value<T: FieldValue>(&mut self) -> Result<T, LineFault>
         requires { self.old.field < 7 }
-        ensures value { result ≡ number_at (all_fields self.old) (self.old.field + 1) }
+        ensures value { result ≡ placed (self.old.field + 1) (T.answer (at_place (all_fields self.old) (self.old.field + 1))) }
         ensures after { Moved self.old self.new }
     {
-        match number_in(self.field()) {
-            Ok(n) => Ok(n),
-            Err(fault) => Err(self.fault(fault)),
-        }
-    }
-
-    // The next field as a letter.
-    pub(crate) fn letter(&mut self) -> Result<Letter, LineFault>
-        requires { self.old.field < 7 }
-        ensures value { result ≡ letter_at (all_fields self.old) (self.old.field + 1) }
-        ensures after { Moved self.old self.new }
-    {
-        match letter_in(self.field()) {
-            Ok(letter) => Ok(letter),
-            Err(fault) => Err(self.fault(fault)),
-        }
+        T::read(self.field()).map_err(|fault| fault.at(self.field))
     }
 }

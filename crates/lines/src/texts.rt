@@ -1,10 +1,10 @@
 // The tests of a whole text, and its lines.
-ghost use Rattle.std.specs.Prelude.{◌≡◌, true, drop, is_ok};
-ghost use Rattle.std.specs.Option.{option_map};
-ghost use Rattle.lines.specs.Texts.{lines_of, ended_lines, ended, text_answer, lines_left, first_line, number_after};
+ghost use Rattle.std.specs.Prelude.{◌≡◌, true, is_ok};
+ghost use Rattle.std.specs.Iterator.{item_count};
+ghost use Rattle.lines.specs.Texts.{lines_of, ended_lines, ended, text_answer, lines_left, GivesLine};
 
 use crate::faults::{Fault, TableFault};
-use crate::parts::{after_part, first_part, part_count};
+use crate::parts::cut;
 use crate::text::TextCursor;
 
 const LONGEST_TEXT: usize = 32_768;
@@ -13,10 +13,7 @@ const LONGEST_TEXT: usize = 32_768;
 fn is_ended(text: &[u8]) -> bool
     ensures { result ≡ ended text.now }
 {
-    if text.is_empty() {
-        return true;
-    }
-    text[text.len() - 1] == b'\n'
+    text.last().is_none_or(|byte| *byte == b'\n')
 }
 
 // A text is at most 32,768 bytes long, and each of its lines is ended.
@@ -34,7 +31,7 @@ pub fn check_text(text: &[u8]) -> Result<(), TableFault>
     if !is_ended(text) {
         return Err(TableFault {
             fault: Fault::NoLineFeed,
-            line: part_count(text, b'\n') as u32,
+            line: text.split(|byte| *byte == b'\n').count() as u32,
             field: 0,
         });
     }
@@ -59,18 +56,22 @@ impl<'a> TextCursor<'a> {
     {
         self.number
     }
+}
 
-    // The next line, without its line feed.
-    pub fn next_line(&mut self) -> Option<&'a [u8]>
-        ensures value { option_map (λ x. x.now) result ≡ first_line (lines_left self.old) }
-        ensures left { lines_left self.new ≡ drop 1 (lines_left self.old) }
-        ensures number { self.new.number ≡ number_after self.old.number (lines_left self.old) }
-    {
+// The lines, each without its line feed.
+impl<'a> Iterator for TextCursor<'a> {
+    type Item = &'a [u8];
+
+    ghost next_gives = { GivesLine };
+
+    ghost remaining = { item_count lines_left };
+
+    fn next(&mut self) -> Option<&'a [u8]> {
         if self.rest.is_empty() {
             return None;
         }
-        let line = first_part(self.rest, b'\n');
-        self.rest = after_part(self.rest, b'\n');
+        let (line, rest) = cut(self.rest, b'\n');
+        self.rest = rest;
         self.number = self.number.saturating_add(1);
         Some(line)
     }

@@ -150,10 +150,10 @@ mod tests {
         check_text(b"")?;
         check_text(b"node,1,E\n\n")?;
         let mut text = TextCursor::new(b"node,1,E\n\n");
-        assert_eq!(rt; text.next_line().ok_or("no line")?.len(), 8);
-        assert_eq!(rt; text.next_line().ok_or("no line")?.len(), 0);
+        assert_eq!(rt; text.next().ok_or("no line")?.len(), 8);
+        assert_eq!(rt; text.next().ok_or("no line")?.len(), 0);
         assert_eq!(rt; text.number(), 2);
-        assert!(rt; text.next_line().is_none());
+        assert!(rt; text.next().is_none());
         Ok(())
     }
 

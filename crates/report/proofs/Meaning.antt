@@ -1,6 +1,6 @@
 -- What the report on a solved panel means.
 use Rattle.std.proofs.Common.{◌≡◌, ℕ, List, ◌∷◌, Some, None, Ok, Err, Option, Result, sym, ap, subst, arith}
-use Rattle.std.specs.Result.{result_map_both, result_unwrap_or}
+use Rattle.std.specs.Result.{result_unwrap_or}
 use Rattle.rules.specs.Rules.{Meaning, Laws}
 use Rattle.mixed.specs.declared.letters.Letters.{Letters}
 use Rattle.edf.specs.Laws as edf
@@ -9,7 +9,6 @@ use Rattle.fixed.specs.Laws as fixed
 use Rattle.fixed.specs.Fixed.{fixed_priority}
 use Rattle.mixed.specs.Laws.{mixture_laws}
 use Rattle.law.specs.declared.answers.Reply.TheVariants.{Solved}
-use Rattle.law.specs.declared.answers.Refusal.{Refusal}
 use Rattle.law.specs.declared.answers.Refusal.TheVariants.{NothingCarries}
 use Rattle.law.specs.Assignments.{zeros, Carries, Least, Rounds}
 use Rattle.law.specs.Runs.{Run, held, Counted, Solves, finds, finds_none, Start, after_solve}
@@ -20,8 +19,8 @@ use Rattle.law.proofs.Steps.{solve_keeps}
 use Rattle.lines.specs.declared.faults.TableFault.{TableFault}
 use Rattle.reading.specs.Reading.{Panel, no_panel, table_of, accepted}
 use Rattle.table.specs.Drafts.{TablePlan, rule_of, panel_in, Unsolved}
-use Rattle.report.specs.declared.verdicts.Verdict.{Verdict}
-use Rattle.report.specs.Reports.{report_of, panel_rule, panel_outcome, solved_verdict, solved_bytes, EndToEnd, nothing_carries, least_listed}
+use Rattle.writing.specs.Writing.{after_write}
+use Rattle.report.specs.Reports.{fault_bytes, panel_rule, panel_outcome, solved_verdict, solved_bytes, verdict_on, bytes_on, EndToEnd, first_fault, nothing_carries, least_listed}
 
 rule_laws : (letters : Letters) → Laws (rule_of letters)
 rule_laws letters = mixture_laws letters earliest_deadline fixed_priority edf.deadline_laws fixed.fixed_laws
@@ -62,20 +61,27 @@ module _ (text : List ℕ) (p : Panel) (h : Run) (read : table_of text ≡ Ok p)
 
 -- ## What a reader says of a text
 
-pub read_fault : (r : Result Panel TableFault) (fault : TableFault) → Err fault ≡ accepted r → r ≡ Err fault
+read_fault : (r : Result Panel TableFault) (fault : TableFault) → Err fault ≡ accepted r → r ≡ Err fault
 read_fault (Ok p) fault e = let z : ◌≡◌ {A = ℕ} 0 1 = cc in absurd (omega arith)
 read_fault (Err f) fault e = (cc)
 
-pub read_panel : (r : Result Panel TableFault) (p : Panel) → Ok tt ≡ accepted r → p ≡ result_unwrap_or r no_panel → r ≡ Ok p
+read_panel : (r : Result Panel TableFault) (p : Panel) → Ok tt ≡ accepted r → p ≡ result_unwrap_or r no_panel → r ≡ Ok p
 read_panel (Ok q) p e same = ap Ok (sym same)
 read_panel (Err f) p e same = let z : ◌≡◌ {A = ℕ} 0 1 = cc in absurd (omega arith)
 
--- a write that was made, or refused, as a report
-pub reported : (verdict : Verdict) {wrote answer : Result ℕ Refusal} → wrote ≡ answer → result_map_both (report_of verdict) (λ why. why) wrote ≡ result_map_both (report_of verdict) (λ why. why) answer
-reported verdict e = ap (result_map_both {E = Refusal} {D = Refusal} (report_of verdict) (λ why. why)) e
+-- the fault that a reader found is written
+pub fault_written : (r : Result Panel TableFault) (fault : TableFault) (old new : List ℕ) → Err fault ≡ accepted r → new ≡ after_write old 0 (fault_bytes fault) → new ≡ after_write old 0 (bytes_on r)
+fault_written r fault old new e after = rw (read_fault r fault e) after
 
-pub plan_meaning : (text : List ℕ) (p : TablePlan) → Unsolved p → table_of text ≡ Ok (panel_in p) → EndToEnd text (solved_verdict (panel_outcome (panel_in p))) (solved_bytes (panel_in p) (panel_outcome (panel_in p)))
-plan_meaning text p u read =
+pub fault_meaning : (text : List ℕ) (fault : TableFault) → Err fault ≡ accepted (table_of text) → EndToEnd text (verdict_on (table_of text)) (bytes_on (table_of text))
+fault_meaning text fault e =
+    let read = read_fault (table_of text) fault e in
+    rw read (first_fault read)
+
+pub plan_meaning : (text : List ℕ) (p : TablePlan) → Unsolved p → Ok tt ≡ accepted (table_of text) → panel_in p ≡ result_unwrap_or (table_of text) no_panel →
+    EndToEnd text (verdict_on (table_of text)) (bytes_on (table_of text))
+plan_meaning text p u e same =
+    let read = read_panel (table_of text) (panel_in p) e same in
     let h = u.run.0 in
     let rule = rule_of p.rule.letters in
-    meaning text (panel_in p) h read (subst (Leads rule h) u.unsolved u.run.1)
+    rw read (meaning text (panel_in p) h read (subst (Leads rule h) u.unsolved u.run.1))

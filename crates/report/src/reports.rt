@@ -33,6 +33,7 @@ fn report_plan(mut plan: TablePlan, buffer: &mut [u8]) -> Result<Report, Refusal
 
 // Reads a text, solves the plan that it gives, and writes what comes of it to the front of the buffer: the listing of the least response times that
 // carry the chains, or the line of the refusal; or 20, and then nothing is written. The rest of the buffer stays as it was.
+#[tactic(auto, using(crate::proofs::Meaning::fault_meaning, crate::proofs::Meaning::plan_meaning))]
 pub fn report(text: &[u8], buffer: &mut [u8]) -> Result<Report, Refusal>
     ensures value { result ≡ report_answer buffer.old (table_of text.now) }
     ensures after { buffer.new ≡ after_write buffer.old 0 (bytes_on (table_of text.now)) }
@@ -40,10 +41,7 @@ pub fn report(text: &[u8], buffer: &mut [u8]) -> Result<Report, Refusal>
 {
     let mut reader = Reader::new();
     match reader.read(text) {
-        Ok(()) => {
-            let Reader { plan } = reader;
-            report_plan(plan, buffer)
-        }
+        Ok(()) => report_plan(reader.plan, buffer),
         Err(fault) => Ok(Report {
             verdict: Verdict::Faulty(fault),
             len: write_fault(&fault, buffer)?,

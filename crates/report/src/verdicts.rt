@@ -1,6 +1,7 @@
 // What a report says.
 use lines::TableFault;
 
+// Three answers of equal standing, so none of them is an error.
 #[derive(Clone, Copy, PartialEq, Eq, Debug)]
 pub enum Verdict {
     // the listing: every chain ends in time

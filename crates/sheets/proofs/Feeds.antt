@@ -1,5 +1,6 @@
 -- A text of lines that hold no line feed has just those lines.
 use Rattle.std.proofs.Common.{◌≡◌, ℕ, ◌<◌, ◌≤◌, true, false, cond, eqb, leb, List, [], ◌∷◌, ◌++◌, length, is_ok, Ok, decimal, sym, refl, ap, ◌∙◌, arith}
+use Rattle.std.specs.List.{onto_first}
 use Rattle.std.specs.Str.{all_ascii_digits}
 use Rattle.std.specs.Char.{is_ascii_digit}
 use Rattle.std.proofs.lemmas.Fmt.{digits_decimal}
@@ -8,7 +9,6 @@ use Rattle.mixed.specs.declared.letters.Letter.{Letter}
 use Rattle.mixed.specs.declared.letters.Letter.TheVariants.{E, P}
 use Rattle.lines.specs.declared.line.Line.{Line}
 use Rattle.lines.specs.declared.line.Line.TheVariants.{Node, Chain, Step}
-use Rattle.lines.specs.Fields.{in_first}
 use Rattle.lines.specs.Texts.{lines_of, ended_lines, ended, text_answer}
 use Rattle.lines.specs.Writing.{letter_bytes, written_fields, by_commas, line_bytes, numbers_of, Small}
 use Rattle.lines.proofs.Ending.{all_ended, accepted_lines}
@@ -61,7 +61,7 @@ line_no_feed l s = commas_no_feed (written_fields l) (fields_no_feed l (numbers_
 first_line : (l rest : List ℕ) → NoFeed l → lines_of (l ++ 10 ∷ rest) ≡ l ∷ lines_of rest
 first_line [] rest p = refl
 first_line (b ∷ l) rest p =
-    ap (λ t. cond t ([] ∷ lines_of (l ++ 10 ∷ rest)) (in_first b (lines_of (l ++ 10 ∷ rest)))) p.0 ∙ ap (in_first b) (first_line l rest p.1)
+    ap (λ t. cond t ([] ∷ lines_of (l ++ 10 ∷ rest)) (onto_first b (lines_of (l ++ 10 ∷ rest)))) p.0 ∙ ap (onto_first b) (first_line l rest p.1)
 
 pub lines_back : (ls : List (List ℕ)) → Every NoFeed ls → lines_of (ended_lines ls) ≡ ls
 lines_back [] p = refl

@@ -1,21 +1,21 @@
 -- The turns of the reader: one line after another.
-use Rattle.std.proofs.Common.{◌≡◌, ℕ, suc, ◌+◌, ◌<◌, ◌≤◌, Bool, true, false, cond, eqb, List, [], ◌∷◌, length, drop, Some, None, Ok, Err, sym, refl, ap, ◌∙◌, arith}
+use Rattle.std.proofs.Common.{◌≡◌, ℕ, suc, ◌+◌, ◌<◌, ◌≤◌, Bool, true, false, cond, eqb, List, [], ◌∷◌, length, Ok, Err, sym, refl, ap, ◌∙◌, arith}
+use Rattle.std.specs.List.{onto_first}
 use Rattle.lines.specs.declared.faults.TableFault.{TableFault}
 use Rattle.lines.specs.declared.text.TextCursor.{TextCursor}
-use Rattle.lines.specs.Fields.{in_first}
 use Rattle.lines.specs.Lines.{◌then◌}
-use Rattle.lines.specs.Texts.{lines_of, lines_left, first_line, number_after}
+use Rattle.lines.specs.Texts.{lines_of, lines_left, number_after}
 use Rattle.lines.proofs.Chained.{goes_on, stops}
 use Rattle.reading.specs.Reading.{of_nodes, no_node, line_taken, read_lines}
 use Rattle.table.specs.declared.draft.Draft.{Draft}
-use Rattle.table.specs.Drafts.{draft_in, Unsolved}
+use Rattle.table.specs.Drafts.{draft_in, UnsolvedSoFar}
 
 -- no more lines than bytes
 pub length_lines : (bs : List ℕ) → length (lines_of bs) ≤ length bs
 length_lines [] = omega arith
 length_lines (b ∷ bs) = by (eqb b 10) (lines_of bs) (length_lines bs)
   where
-    by : (t : Bool) (ls : List (List ℕ)) → length ls ≤ length bs → length (cond t ([] ∷ ls) (in_first b ls)) ≤ suc (length bs)
+    by : (t : Bool) (ls : List (List ℕ)) → length ls ≤ length bs → length (cond t ([] ∷ ls) (onto_first b ls)) ≤ suc (length bs)
     by true ls h = omega arith
     by false [] h = omega arith
     by false (l ∷ ls) h = omega arith
@@ -24,34 +24,22 @@ length_lines (b ∷ bs) = by (eqb b 10) (lines_of bs) (length_lines bs)
 pub record Turn (text : List ℕ) (lines : TextCursor) (draft : Draft) : Type 0 where
   pub few : lines.number + length (lines_left lines) ≤ 32768
   pub rest : read_lines (lines.number + 1) (draft_in draft) (lines_left lines) ≡ read_lines 1 (of_nodes no_node) (lines_of text)
-  pub unsolved : Unsolved draft.plan
+  pub unsolved : UnsolvedSoFar draft
 
-pub turn_none : (text : List ℕ) (lines : TextCursor) (draft : Draft) → length text ≤ 32768 → lines_left lines ≡ lines_of text → lines.number ≡ 0 → draft_in draft ≡ of_nodes no_node → Unsolved draft.plan → Turn text lines draft
+pub turn_none : (text : List ℕ) (lines : TextCursor) (draft : Draft) → length text ≤ 32768 → lines_left lines ≡ lines_of text → lines.number ≡ 0 → draft_in draft ≡ of_nodes no_node → UnsolvedSoFar draft → Turn text lines draft
 turn_none text lines draft h left none new unsolved =
     let few = length_lines text in
     let same = ap length left in
     record { few = omega arith; rest = rw (none, left, new); unsolved = unsolved }
 
--- a line that was given is the first of those that were left
-split : (line : List ℕ) (ls rest : List (List ℕ)) → Some line ≡ first_line ls → rest ≡ drop 1 ls → ls ≡ line ∷ rest
-split line [] rest e f = let z : ◌≡◌ {A = ℕ} 0 1 = cc in absurd (omega arith)
-split line (l ∷ ls) rest e f = (cc)
-
 counted : (n : ℕ) (line : List ℕ) (rest : List (List ℕ)) → n + suc (length rest) ≤ 32768 → number_after n (line ∷ rest) ≡ n + 1
 counted n line rest h = omega arith
 
-pub last_line : (text : List ℕ) (lines : TextCursor) (draft : Draft) → Turn text lines draft → None ≡ first_line (lines_left lines) → Ok (draft_in draft) ≡ read_lines 1 (of_nodes no_node) (lines_of text)
-last_line text lines draft t none = by (lines_left lines) none t.rest
-  where
-    by : (ls : List (List ℕ)) → None ≡ first_line ls → read_lines (lines.number + 1) (draft_in draft) ls ≡ read_lines 1 (of_nodes no_node) (lines_of text) → Ok (draft_in draft) ≡ read_lines 1 (of_nodes no_node) (lines_of text)
-    by [] e h = h
-    by (l ∷ ls) e h = let z : ◌≡◌ {A = ℕ} 0 1 = cc in absurd (omega arith)
+pub last_line : (text : List ℕ) (lines : TextCursor) (draft : Draft) → Turn text lines draft → lines_left lines ≡ [] → Ok (draft_in draft) ≡ read_lines 1 (of_nodes no_node) (lines_of text)
+last_line text lines draft t none = sym (ap (read_lines (lines.number + 1) (draft_in draft)) none) ∙ t.rest
 
-module _ (text : List ℕ) (lines after : TextCursor) (draft : Draft) (t : Turn text lines draft) (line : List ℕ) (value : Some line ≡ first_line (lines_left lines))
-    (left : lines_left after ≡ drop 1 (lines_left lines)) (number : after.number ≡ number_after lines.number (lines_left lines)) where
-  here : lines_left lines ≡ line ∷ lines_left after
-  here = split line (lines_left lines) (lines_left after) value left
-
+module _ (text : List ℕ) (lines after : TextCursor) (draft : Draft) (t : Turn text lines draft) (line : List ℕ) (here : lines_left lines ≡ line ∷ lines_left after)
+    (number : after.number ≡ number_after lines.number (lines_left lines)) where
   fewer : length (lines_left lines) ≡ suc (length (lines_left after))
   fewer = ap length here
 
@@ -70,7 +58,7 @@ module _ (text : List ℕ) (lines after : TextCursor) (draft : Draft) (t : Turn 
     pub turn_stops : (fault : TableFault) → Err fault ≡ line_taken n (draft_in draft) line → Err fault ≡ read_lines 1 (of_nodes no_node) (lines_of text)
     turn_stops fault e = stops _ (sym (rw same at e)) ∙ onward
 
-    pub turn_more : (next : Draft) → Ok (draft_in next) ≡ line_taken n (draft_in draft) line → Unsolved next.plan → Turn text after next
+    pub turn_more : (next : Draft) → Ok (draft_in next) ≡ line_taken n (draft_in draft) line → UnsolvedSoFar next → Turn text after next
     turn_more next e unsolved =
         let l = fewer in
         let k = one_on in

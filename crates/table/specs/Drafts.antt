@@ -1,5 +1,5 @@
 -- What the reader's memory says of the text read so far. Assumes nothing.
-use Rattle.std.specs.Prelude.{◌≡◌, take}
+use Rattle.std.specs.Prelude.{◌≡◌, ⊤}
 use Rattle.rules.specs.Rules.{Meaning}
 use Rattle.edf.specs.declared.EarliestDeadline.{EarliestDeadline}
 use Rattle.edf.specs.Edf.{earliest_deadline}
@@ -16,9 +16,8 @@ use Rattle.reading.specs.Reading as reading
 use Rattle.reading.specs.Reading.{Panel, Begun, of_nodes, of_chains}
 use Rattle.table.specs.declared.begun.ChainBegun.{ChainBegun}
 use Rattle.table.specs.declared.draft.Draft.{Draft}
-use Rattle.table.specs.declared.draft.Stage.{Stage}
-use Rattle.table.specs.declared.draft.Stage.TheVariants as stage
-use Rattle.table.specs.declared.given.Nodes.{Nodes}
+use Rattle.table.specs.declared.draft.Draft.TheVariants.{Nodes, Chains}
+use Rattle.table.specs.declared.given.Nodes as given
 
 abbrev pub TablePlan : Type 0
 TablePlan = Plan (Mixed EarliestDeadline FixedPriority)
@@ -31,18 +30,15 @@ rule_of letters = mixture letters earliest_deadline fixed_priority
 abbrev pub panel_in : TablePlan → Panel
 panel_in p = record { letters = p.rule.letters; chains = chains_of p.table }
 
-abbrev pub nodes_in : Nodes → reading.Nodes
+abbrev pub nodes_in : given.Nodes → reading.Nodes
 nodes_in n = record { letters = n.letters; given = n.given.by_node }
 
 abbrev pub chain_in : ChainBegun → Begun
-chain_in c = record { line = c.line; fields = c.chain.fields; steps = take c.count c.steps }
-
-abbrev pub stage_in : Stage → TablePlan → reading.Draft
-stage_in (stage.Nodes n) p = of_nodes (nodes_in n)
-stage_in (stage.Chain given c) p = of_chains given.by_node (panel_in p) (chain_in c)
+chain_in c = record { line = c.line; fields = c.chain.fields; steps = c.steps }
 
 abbrev pub draft_in : Draft → reading.Draft
-draft_in d = stage_in d.stage d.plan
+draft_in (Nodes n) = of_nodes (nodes_in n)
+draft_in (Chains given p c) = of_chains given.by_node (panel_in p) (chain_in c)
 
 -- ## What holds of a reader's plan
 
@@ -50,3 +46,8 @@ draft_in d = stage_in d.stage d.plan
 pub record Unsolved (p : TablePlan) : Type 0 where
   pub unsolved : contents p.table ≡ anew (chains_of p.table)
   pub run : (h : Run) × Leads (rule_of p.rule.letters) h (contents p.table)
+
+-- the same of the plan of a draft, once there is one
+abbrev pub UnsolvedSoFar : Draft → Type 0
+UnsolvedSoFar (Nodes n) = ⊤
+UnsolvedSoFar (Chains given p c) = Unsolved p

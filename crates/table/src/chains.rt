@@ -16,13 +16,11 @@ use plan::Plan;
 pub(crate) fn numbered<T>(res: Result<T, LineFault>, line: u32) -> Result<T, TableFault>
     ensures { result ≡ with_number line res }
 {
-    match res {
-        Ok(value) => Ok(value),
-        Err(fault) => Err(fault.on(line)),
-    }
+    res.map_err(|fault| fault.on(line))
 }
 
 // A plan with these letters and no chain.
+// `Unsolved` is a clause of each function here, and no ghost field: many runs of calls lead to one plan, and a ghost field's fact has one proof at most.
 pub(crate) fn open(letters: Letters) -> TablePlan
     ensures panel { panel_in result ≡ record { letters = letters; chains = [] } }
     ensures unsolved { Unsolved result }
@@ -37,7 +35,7 @@ impl ChainBegun {
         ensures value { result_map_both panel_in (λ fault. fault) result ≡ entry (panel_in plan) (chain_in self.now) }
         ensures unsolved { IfOk result Unsolved }
     {
-        plan.add(self.chain, self.steps())?;
+        plan.add(self.chain, self.steps.as_slice())?;
         Ok(plan)
     }
 

@@ -6,6 +6,7 @@ mod chains;
 mod draft;
 mod drafting;
 mod given;
+mod kept;
 mod nodes;
 mod reader;
 mod steps;

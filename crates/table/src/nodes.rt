@@ -4,8 +4,8 @@ ghost use Rattle.std.specs.Result.{result_map_both};
 ghost use Rattle.reading.specs.Reading.{no_node, is_given, give};
 ghost use Rattle.table.specs.Drafts.{nodes_in};
 
-use crate::given::{Given, Nodes};
-use lines::{Fault, LineFault, NodeLine};
+use crate::given::{Given, Nodes, WRONG_NODE};
+use lines::{LineFault, NodeLine};
 use mixed::Letters;
 
 impl Given {
@@ -18,13 +18,12 @@ impl Given {
     }
 
     // The node given too.
-    pub(crate) fn with(self, node: u32) -> Given
+    pub(crate) fn with(mut self, node: u32) -> Given
         requires { (1 ≤ node) × (node ≤ 8) }
         ensures { result.by_node ≡ slice_set self.by_node (node - 1) true }
     {
-        let mut by_node = self.by_node;
-        by_node[node as usize - 1] = true;
-        Given { by_node }
+        self.by_node[node as usize - 1] = true;
+        self
     }
 }
 
@@ -47,10 +46,7 @@ impl Nodes {
     {
         let letters = self.letters.with(line.node, line.letter)?;
         if self.given.has(line.node) {
-            return Err(LineFault {
-                fault: Fault::Node,
-                field: 2,
-            });
+            return Err(WRONG_NODE);
         }
         Ok(Nodes {
             letters,

@@ -4,7 +4,7 @@ ghost use Rattle.std.specs.Result.{result_map_both, result_unwrap_or};
 ghost use Rattle.lines.specs.Texts.{lines_of};
 ghost use Rattle.reading.specs.Reading.{of_nodes, no_node, no_panel, read_lines, table_of, accepted};
 ghost use Rattle.sheets.specs.Sheets.{InverseOfWriting};
-ghost use Rattle.table.specs.Drafts.{panel_in, draft_in, Unsolved};
+ghost use Rattle.table.specs.Drafts.{panel_in, draft_in, Unsolved, UnsolvedSoFar};
 
 use crate::chains::open;
 use crate::draft::Draft;
@@ -16,11 +16,11 @@ use mixed::Letters;
 fn draft_of(text: &[u8]) -> Result<Draft, TableFault>
     requires { length text.now ≤ 32768 }
     ensures value { result_map_both draft_in (λ fault. fault) result ≡ read_lines 1 (of_nodes no_node) (lines_of text.now) }
-    ensures unsolved { IfOk result (λ draft. Unsolved draft.plan) }
+    ensures unsolved { IfOk result UnsolvedSoFar }
 {
     let mut draft = Draft::new();
     let mut lines = TextCursor::new(text);
-    while let Some(line) = lines.next_line() {
+    while let Some(line) = lines.next() {
         draft = draft.with_line(lines.number(), line)?;
     }
     Ok(draft)
@@ -46,11 +46,13 @@ impl Reader {
         }
     }
 
-    // As `read`, whose law follows from this contract.
-    fn read_text(&mut self, text: &[u8]) -> Result<(), TableFault>
+    // Reads a text: the reader's plan is then the one that the text gives. At a fault it is empty, with every letter E.
+    #[tactic(auto, using(sheets::proofs::Inverse::inverse))]
+    pub fn read(&mut self, text: &[u8]) -> Result<(), TableFault>
         ensures value { result ≡ accepted (table_of text.now) }
         ensures panel { panel_in self.new.plan ≡ result_unwrap_or (table_of text.now) no_panel }
         ensures unsolved { Unsolved self.new.plan }
+        ensures inverse { InverseOfWriting text.now (table_of text.now) }
     {
         match plan_of(text) {
             Ok(plan) => {
@@ -62,15 +64,5 @@ impl Reader {
                 Err(fault)
             }
         }
-    }
-
-    // Reads a text: the reader's plan is then the one that the text gives. At a fault it is empty, with every letter E.
-    pub fn read(&mut self, text: &[u8]) -> Result<(), TableFault>
-        ensures value { result ≡ accepted (table_of text.now) }
-        ensures panel { panel_in self.new.plan ≡ result_unwrap_or (table_of text.now) no_panel }
-        ensures unsolved { Unsolved self.new.plan }
-        ensures inverse { InverseOfWriting text.now (table_of text.now) }
-    {
-        self.read_text(text)
     }
 }

@@ -1,18 +1,15 @@
-use Rattle.std.proofs.Common.{sym}
-use Rattle.lines.proofs.Ending.{too_long, not_ended, all_ended, accepted_lines}
+use Rattle.std.proofs.Common.{sym, rules}
+use borrow.Author.Tests.{tests}
+use Rattle.std.proofs.lemmas.Iterator.Consumers.{count_from_yields_List}
+use Rattle.std.proofs.lemmas.Iterator.Splits.{YieldsList-from_slice_split}
+use Rattle.lines.proofs.Ending.{not_ended, joined_lines}
 use Rattle.lines.proofs.texts.check_text.Goals as goal
 
-pub returns-then-text-gt-LONGEST_TEXT : goal.returns-then-text-gt-LONGEST_TEXT
-returns-then-text-gt-LONGEST_TEXT c =
-    let v = too_long c.args.text.now c.if-text-gt-LONGEST_TEXT.true in
-    record { value = v; lines = accepted_lines c.args.text.now _ v }
+pub returns-then-not-is_ended-clause-value : goal.returns-then-not-is_ended-clause-value
+returns-then-not-is_ended-clause-value c =
+    not_ended c.args.text.now _ c.if-text-gt-LONGEST_TEXT.false (sym c.if-not-is_ended.ensures)
+    (count_from_yields_List c.split.result _ c.count.ensures.ran
+    (YieldsList-from_slice_split _ _ c.args.text.now c.split.ensures.rest c.split.ensures.done c.split.ensures.closure (λ x b q k. search (rules, tests))))
 
-pub returns-then-not-is_ended : goal.returns-then-not-is_ended
-returns-then-not-is_ended c =
-    let v = not_ended c.args.text.now c.part_count.result c.if-text-gt-LONGEST_TEXT.false (sym c.if-not-is_ended.ensures) c.part_count.ensures.value in
-    record { value = v; lines = accepted_lines c.args.text.now _ v }
-
-pub returns : goal.returns
-returns c =
-    let v = all_ended c.args.text.now c.if-text-gt-LONGEST_TEXT.false (sym c.if-not-is_ended.ensures) in
-    record { value = v; lines = accepted_lines c.args.text.now _ v }
+pub returns-clause-lines : goal.returns-clause-lines
+returns-clause-lines c ok = joined_lines c.args.text.now (sym c.if-not-is_ended.ensures)
