@@ -1,9 +1,11 @@
 -- Each call's step of the law over runs.
-use Rattle.std.proofs.Common.{◌≡◌, ℕ, zero, suc, ◌<◌, ◌≤◌, Bool, true, false, cond, eqb, leb, ◌⊎◌, List, [], ◌∷◌, ◌++◌, length, get_or, take, Some, None, Option, Ok, Err, sym, refl, ap, ◌∙◌, inl, inr, add_comm, arith, length-append, take_all, take-suc}
-use mathlib.Core.Bool.{false≢true}
+use Rattle.std.proofs.Common.{◌≡◌, ℕ, zero, suc, ◌<◌, ◌≤◌, true, false, leb, ◌⊎◌, List, [], ◌∷◌, ◌++◌, length, get_or, take, Some, None, Option, Ok, Err, sym, refl, ap, ◌∙◌, inl, inr, add_comm, arith, length-append, take_all, take-suc}
 use Rattle.std.proofs.lemmas.List.{get_or_append_left, get_or_push}
-use Rattle.std.proofs.lemmas.Bool.{leb-true, le-leb, lt-leb, eqb-true, eq-eqb, cases_eq, false_from_ne_true}
+use Rattle.std.proofs.lemmas.Bool.{leb-true, le-leb, lt-leb, cases_eq, false_from_ne_true}
 use Rattle.std.proofs.lemmas.Option.{none-some, same_Some, cond_some}
+use Rattle.std.proofs.lemmas.Slice.Eq.{bytes_eq-Decides}
+use Rattle.std.specs.Prelude.{nat_eq}
+use Rattle.std.specs.Cmp.Lexicographic.{pointwise}
 use Rattle.records.specs.declared.fields.StepFields.{StepFields}
 use Rattle.records.specs.declared.record.Chain.{Chain}
 use Rattle.rules.specs.Rules.{Meaning, Laws}
@@ -14,7 +16,7 @@ use Rattle.law.specs.Assignments.{Held, rows_of, deadlines_of, jitters_of, Round
 use Rattle.law.specs.Refusals.{forgets}
 use Rattle.law.specs.Runs.{Call, Answer, Run, held, add_answer, drop_answer, recost_answer, Start, Solves, Tells, Lawful}
 use Rattle.law.specs.Runs.Call.{add, drop, recost, solve, ask}
-use Rattle.law.specs.State.{Contents, new_plan, added, dropped, recosts, kept_within, behind, all_of, row_response, round, same, rounds_from, solving, solve_answer, solved_with, ask_answer, Leads, Keeps}
+use Rattle.law.specs.State.{Contents, new_plan, added, dropped, recosts, kept_within, behind, all_of, row_response, round, rounds_from, solving, solve_answer, solved_with, ask_answer, Leads, Keeps}
 use Rattle.law.specs.Determined.{Determined}
 use Rattle.law.proofs.Chains.{length_deadlines}
 use Rattle.law.proofs.Rounds.{Answers, Ends}
@@ -112,22 +114,11 @@ module _ (answer : Meaning) (cs : List Held) where
       by None e = e
       by (Some ys) e = absurd (none ys (round_shows xs ys e))
 
-pub same_refl : (xs : List ℕ) → same xs xs ≡ true
-same_refl [] = refl
-same_refl (x ∷ xs) = rw (eq-eqb x x refl) (same_refl xs)
+same_list : (xs : List ℕ) → pointwise nat_eq xs xs ≡ true
+same_list xs = (bytes_eq-Decides xs xs).1 refl
 
-pub same_shows : (xs ys : List ℕ) → same xs ys ≡ true → xs ≡ ys
-same_shows [] [] e = refl
-same_shows [] (y ∷ ys) e = absurd (false≢true e)
-same_shows (x ∷ xs) [] e = absurd (false≢true e)
-same_shows (x ∷ xs) (y ∷ ys) e = by (eqb x y) refl e (same_shows xs ys)
-  where
-    by : (b : Bool) → eqb x y ≡ b → cond b (same xs ys) false ≡ true → (same xs ys ≡ true → xs ≡ ys) → x ∷ xs ≡ y ∷ ys
-    by true t e rec = let p = eqb-true x y t in let q = rec e in cc
-    by false t e rec = absurd (false≢true e)
-
-pub not_same : (xs ys : List ℕ) → (xs ≡ ys → ⊥) → same xs ys ≡ false
-not_same xs ys ne = false_from_ne_true (same xs ys) (λ e. ne (same_shows xs ys e))
+other_list : (xs ys : List ℕ) → (xs ≡ ys → ⊥) → pointwise nat_eq xs ys ≡ false
+other_list xs ys ne = false_from_ne_true (pointwise nat_eq xs ys) (λ e. ne ((bytes_eq-Decides xs ys).0 e))
 
 -- the rounds that there are, computed with enough allowed
 pub rounds_computed : {answer : Meaning} {cs : List Held} {xs : List ℕ} {n : ℕ} {end : Option (List ℕ)} → Rounds answer cs xs n end →
@@ -140,9 +131,9 @@ rounds_computed r zero h = absurd (none_yet r h)
     none_yet (Rounds.settles r) h = omega arith
     none_yet (Rounds.goes_on r ne rs) h = omega arith
 rounds_computed {answer} {cs} (Rounds.refuses none) (suc most) h = rw (round_none answer cs none, rounds_from)
-rounds_computed {answer} {cs} (Rounds.settles {xs} r) (suc most) h = rw (round_is answer cs r, rounds_from, same_refl xs)
+rounds_computed {answer} {cs} (Rounds.settles {xs} r) (suc most) h = rw (round_is answer cs r, rounds_from, same_list xs)
 rounds_computed {answer} {cs} (Rounds.goes_on {xs} {ys} {n} {end} r ne rs) (suc most) h =
-    rw (round_is answer cs r, rounds_from, not_same xs ys ne, rounds_computed {xs = ys} {n = n} {end = end} rs most (omega arith), add_comm 1 n)
+    rw (round_is answer cs r, rounds_from, other_list xs ys ne, rounds_computed {xs = ys} {n = n} {end = end} rs most (omega arith), add_comm 1 n)
 
 -- ## Add
 

@@ -1,8 +1,10 @@
 -- The turns of a solve: rounds made so far, and those still to come.
 use Rattle.std.proofs.Common.{◌≡◌, ℕ, suc, ◌+◌, ◌-◌, ◌<◌, ◌≤◌, true, false, List, Some, None, sym, ◌∙◌, add-zero, add_assoc, zero-add, arith}
+use Rattle.std.specs.Prelude.{nat_eq}
+use Rattle.std.specs.Cmp.Lexicographic.{pointwise}
 use Rattle.rules.specs.Rules.{Meaning}
 use Rattle.law.specs.Assignments.{Held}
-use Rattle.law.specs.State.{round, same, Outcome, rounds_from}
+use Rattle.law.specs.State.{round, Outcome, rounds_from}
 
 -- an outcome after some rounds made before
 abbrev pub after : ℕ → Outcome → Outcome
@@ -21,11 +23,11 @@ module _ (answer : Meaning) (cs : List Held) where
     unfolding rounds_from
     turn_refuses h e = let s : most - made ≡ suc (most - made - 1) = omega arith in sym (reached ∙ rw (s, e, rounds_from))
 
-    pub turn_settles : (ys : List ℕ) → made < most → round answer cs xs ≡ Some ys → same xs ys ≡ true → record { rounds = made + 1; responses = Some ys } ≡ rounds_from answer cs most start
+    pub turn_settles : (ys : List ℕ) → made < most → round answer cs xs ≡ Some ys → pointwise nat_eq xs ys ≡ true → record { rounds = made + 1; responses = Some ys } ≡ rounds_from answer cs most start
     unfolding rounds_from
     turn_settles ys h e t = let s : most - made ≡ suc (most - made - 1) = omega arith in sym (reached ∙ rw (s, e, rounds_from, t))
 
-    pub turn_goes_on : (ys : List ℕ) → made < most → round answer cs xs ≡ Some ys → same xs ys ≡ false → Reaches most start (made + 1) ys
+    pub turn_goes_on : (ys : List ℕ) → made < most → round answer cs xs ≡ Some ys → pointwise nat_eq xs ys ≡ false → Reaches most start (made + 1) ys
     unfolding rounds_from
     turn_goes_on ys h e t =
         let s : most - made ≡ suc (most - (made + 1)) = omega arith in

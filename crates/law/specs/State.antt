@@ -1,5 +1,6 @@
 -- What a plan holds, and what each call makes of it and answers, by what is held alone. Assumes nothing.
-use Rattle.std.specs.Prelude.{◌≡◌, ℕ, zero, suc, ◌+◌, Bool, true, false, cond, List, [], ◌∷◌, ◌++◌, length, replicate, is_some, Some, None, Ok, Err, Option, Result, ◌==◌, nat_le, slice_index}
+use Rattle.std.specs.Prelude.{◌≡◌, ℕ, zero, suc, ◌+◌, Bool, true, false, cond, List, [], ◌∷◌, ◌++◌, length, replicate, is_some, Some, None, Ok, Err, Option, Result, nat_eq, nat_le, slice_index}
+use Rattle.std.specs.Cmp.Lexicographic.{pointwise}
 use Rattle.records.specs.declared.fields.StepFields.{StepFields}
 use Rattle.records.specs.declared.record.Chain.{Chain}
 use Rattle.rules.specs.Rules.{Meaning}
@@ -69,13 +70,6 @@ row_response answer cs xs i = kept_within (slice_index (deadlines_of cs) i) (ans
 unfoldable pub round : Meaning → List Held → List ℕ → Option (List ℕ)
 round answer cs xs = all_of (row_response answer cs xs) (length (rows_of cs))
 
--- two lists of numbers are the same
-abbrev pub same : List ℕ → List ℕ → Bool
-same [] [] = true
-same [] (y ∷ ys) = false
-same (x ∷ xs) [] = false
-same (x ∷ xs) (y ∷ ys) = cond (x == y) (same xs ys) false
-
 -- rounds made, and the responses that they settled in, if they did
 pub record Outcome : Type 0 where
   pub rounds : ℕ
@@ -90,7 +84,7 @@ rounds_from answer cs zero xs = record { rounds = 0; responses = None }
 rounds_from answer cs (suc most) xs =
     elim (round answer cs xs) [
       | None ↦ record { rounds = 1; responses = None }
-      | Some ys ↦ cond (same xs ys) (record { rounds = 1; responses = Some ys }) (one_more (rounds_from answer cs most ys))
+      | Some ys ↦ cond (pointwise nat_eq xs ys) (record { rounds = 1; responses = Some ys }) (one_more (rounds_from answer cs most ys))
     ]
 
 -- what a solve comes to. One round more than the deadlines of all rows add up to is enough: no run of calls leads to a plan that needs more

@@ -1,5 +1,5 @@
 -- What a solve leaves in a plan, and its step of the law over runs.
-use Rattle.std.proofs.Common.{◌≡◌, ℕ, zero, suc, ◌+◌, ◌-◌, ◌≤◌, Bool, true, false, cond, ◌&&◌, nat_eq, List, [], ◌∷◌, length, replicate, Some, None, Ok, Err, sym, refl, ap, subst, ◌∙◌, arith}
+use Rattle.std.proofs.Common.{◌≡◌, ℕ, zero, suc, ◌+◌, ◌-◌, ◌≤◌, true, false, nat_eq, List, length, replicate, Some, None, Ok, Err, sym, refl, ap, subst, ◌∙◌, arith}
 use Rattle.std.specs.Cmp.Lexicographic.{pointwise}
 use lib.ListN.{length-replicate}
 use Rattle.arrayvec.specs.ArrayVec.{ArrayVec}
@@ -10,7 +10,7 @@ use Rattle.law.specs.declared.answers.Refusal.TheVariants.{NothingCarries}
 use Rattle.law.specs.Runs.{Answer}
 use Rattle.law.specs.Runs.Call.{solve}
 use Rattle.law.specs.Assignments.{Held}
-use Rattle.law.specs.State.{Contents, anew, round, same, rounds_from, solving, solve_answer, solved_with, Keeps}
+use Rattle.law.specs.State.{Contents, anew, round, rounds_from, solving, solve_answer, solved_with, Keeps}
 use Rattle.law.proofs.Turns.{Reaches, turn_refuses, turn_settles, turn_goes_on}
 use Rattle.law.proofs.Steps.{solve_keeps}
 use Rattle.plan.specs.declared.plan.Plan.{Plan}
@@ -76,21 +76,10 @@ module _ (answer : Meaning) (cs : List Held) (most : ℕ) (start : List ℕ) (ro
   pub round_refuses : round answer cs xs ≡ None → record { rounds = rounds; responses = None } ≡ rounds_from answer cs most start
   round_refuses e = ap (λ n. record { rounds = n; responses = None }) (sym counted) ∙ turn_refuses answer cs most start (rounds - 1) xs reached (omega arith) e
 
-  pub round_settles : (ys : List ℕ) → round answer cs xs ≡ Some ys → same xs ys ≡ true → record { rounds = rounds; responses = Some ys } ≡ rounds_from answer cs most start
+  pub round_settles : (ys : List ℕ) → round answer cs xs ≡ Some ys → pointwise nat_eq xs ys ≡ true → record { rounds = rounds; responses = Some ys } ≡ rounds_from answer cs most start
   round_settles ys e t = ap (λ n. record { rounds = n; responses = Some ys }) (sym counted) ∙ turn_settles answer cs most start (rounds - 1) xs reached ys (omega arith) e t
 
-  pub round_goes_on : (ys : List ℕ) → round answer cs xs ≡ Some ys → same xs ys ≡ false → Reaches answer cs most start ((rounds + 1) - 1) ys
+  pub round_goes_on : (ys : List ℕ) → round answer cs xs ≡ Some ys → pointwise nat_eq xs ys ≡ false → Reaches answer cs most start ((rounds + 1) - 1) ys
   round_goes_on ys e t =
       let n : (rounds - 1) + 1 ≡ (rounds + 1) - 1 = omega arith in
       subst (λ n. Reaches answer cs most start n ys) n (turn_goes_on answer cs most start (rounds - 1) xs reached ys (omega arith) e t)
-
--- lists compared number by number
-pub equal_same : (xs ys : List ℕ) → pointwise nat_eq xs ys ≡ same xs ys
-equal_same [] [] = refl
-equal_same [] (y ∷ ys) = refl
-equal_same (x ∷ xs) [] = refl
-equal_same (x ∷ xs) (y ∷ ys) = by (nat_eq x y) (equal_same xs ys)
-  where
-    by : (b : Bool) → pointwise nat_eq xs ys ≡ same xs ys → (b && pointwise nat_eq xs ys) ≡ cond b (same xs ys) false
-    by true e = e
-    by false e = refl

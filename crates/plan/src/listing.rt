@@ -79,9 +79,7 @@ impl<R> Plan<R> {
         ensures value { result ≡ listing_answer (contents self.now.table) buffer.old }
         ensures after { buffer.new ≡ listing_after (contents self.now.table) buffer.old }
     {
-        let Some(rounds) = self.table.standing else {
-            return Err(Refusal::NotSolved);
-        };
+        let rounds = self.table.standing.ok_or(Refusal::NotSolved)?;
         if self.listing_len(rounds) > buffer.len() {
             return Err(Refusal::BufferShort);
         }

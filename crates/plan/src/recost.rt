@@ -31,15 +31,8 @@ impl<R: NodeRule> Plan<R> {
             return Err(Refusal::CostOutOfRange);
         }
         let old = self.table.rows.as_slice()[row];
-        let fields = StepFields { cost, ..old.step };
-        let period = old.period;
-        overwrite(
-            &mut self.table.rows.places[row],
-            Row {
-                period,
-                step: fields,
-            },
-        );
+        let step = StepFields { cost, ..old.step };
+        overwrite(&mut self.table.rows.places[row], Row { step, ..old });
         self.table.forget();
         Ok(())
     }

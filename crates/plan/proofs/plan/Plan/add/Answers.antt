@@ -1,8 +1,7 @@
-use Rattle.std.proofs.Common.{◌≡◌, subst, Ok, Err, sym, refl, ap, ◌∙◌, arith}
+use Rattle.std.proofs.Common.{◌≡◌, subst, Ok, Err, sym, refl, arith}
 use Rattle.std.proofs.lemmas.Result.{err_from_is_err_and}
 use Rattle.law.specs.declared.answers.Reply.TheVariants.{Done}
 use Rattle.law.specs.declared.answers.Refusal.TheVariants.{Field}
-use Rattle.law.specs.Runs.{add_answer}
 use Rattle.plan.specs.Contents.{chains_of, contents, appended}
 use Rattle.plan.proofs.Added.{field_refused, room_refused, add_refused, contents_added, add_accepted, sound_added, tested}
 use Rattle.plan.proofs.Solving.{Sound, sound}
