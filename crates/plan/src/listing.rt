@@ -1,8 +1,7 @@
 // The listing: the rounds of the solve that stands, and a line for each row, as bytes.
-ghost use Rattle.std.specs.Prelude.{◌≡◌, ◌+◌, ◌-◌, ◌^◌, ◌<◌, ◌≤◌, min, [], ◌∷◌, length};
-ghost use Rattle.writing.specs.Writing.{line_bytes, put_at};
+ghost use Rattle.std.specs.Prelude.{◌≡◌, ◌<◌};
 ghost use Rattle.plan.specs.Contents.{chains_of, responses_of, contents};
-ghost use Rattle.plan.specs.Listing.{row_fields, rows_bytes, listing_bytes, listing_answer, listing_after};
+ghost use Rattle.plan.specs.Listing.{row_fields, listing_bytes, listing_answer, listing_after};
 
 use crate::plan::Plan;
 use law::Refusal;
