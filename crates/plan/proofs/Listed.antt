@@ -12,16 +12,13 @@ pub fields_are : (cs : List Held) (xs : List ℕ) (k : ℕ) (p : Place) (jitter 
 fields_are cs xs k p jitter response e j r = rw (j, r) (ap (λ o. fields_at o (get_or (jitters_of cs xs) k 0) (get_or xs k 0)) e)
 
 module _ (s : Contents) where
-  pub rows_none : rows_bytes s 0 ≡ []
+  rows_none : rows_bytes s 0 ≡ []
   unfolding rows_bytes
   rows_none = refl
 
-  pub rows_more : (n : ℕ) → rows_bytes s (n + 1) ≡ rows_bytes s n ++ row_line s.chains s.start n
+  rows_more : (n : ℕ) → rows_bytes s (n + 1) ≡ rows_bytes s n ++ row_line s.chains s.start n
   unfolding rows_bytes
   rows_more n = rw (add-one n)
-
-  pub length_rows_more : (n : ℕ) → length (rows_bytes s (n + 1)) ≡ length (rows_bytes s n) + length (row_line s.chains s.start n)
-  length_rows_more n = ap length (rows_more n) ∙ length-append (rows_bytes s n) (row_line s.chains s.start n)
 
   module _ (rounds : ℕ) where
     -- the heading, and the lines of the first rows
