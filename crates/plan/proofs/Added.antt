@@ -1,6 +1,6 @@
 -- What a plan holds after an add, and the add's step of the law over runs.
-use Rattle.std.proofs.Common.{◌≡◌, ◌+◌, ◌<◌, ◌≤◌, Bool, true, List, [], ◌∷◌, ◌++◌, map, length, replicate, Some, None, sym, ◌∙◌, arith, length-take-le}
-use lib.ListN.{length-map}
+use Rattle.std.proofs.Common.{◌≡◌, ◌+◌, ◌<◌, ◌≤◌, Bool, true, List, [], ◌∷◌, ◌++◌, map, length, replicate, Some, None, sym, refl, ap, ap₂, ◌∙◌, arith, length-append}
+use lib.ListN.{length-map, length-replicate}
 use Rattle.records.specs.declared.fields.RecordFault.{RecordFault}
 use Rattle.records.specs.declared.fields.StepFields.{StepFields}
 use Rattle.records.specs.declared.record.Chain.{Chain}
@@ -20,9 +20,10 @@ use Rattle.law.proofs.Chains.{Fits}
 use Rattle.law.proofs.RunLaw.{add_done, rows_fit}
 use Rattle.law.proofs.Steps.{add_keeps, add_refused_keeps}
 use Rattle.plan.specs.declared.table.Table.{Table}
-use Rattle.plan.specs.Contents.{entries_of, table_rows, responses_of, chains_of, contents, steps_in, entry_fits, response_fits, responses_fit_in, Appended}
-use Rattle.plan.proofs.Memory.{Room, length_table_rows, length_rows_held, length_chains, chains_push, steps_push}
-use Rattle.plan.proofs.Solving.{zeros_pass}
+use Rattle.plan.specs.Contents.{chains_of, contents, steps_in, entry_fits, response_fits, appended}
+use Rattle.plan.proofs.Memory.{rows_are, length_chains, chains_push, steps_push}
+use Rattle.plan.proofs.Solving.{zeros_pass, Sound}
+use Rattle.plan.proofs.Timing.{fitting, fits_in}
 
 -- ## What an add answers
 
@@ -42,56 +43,45 @@ add_refused answer s c steps why e = record { value = e; run = add_refused_keeps
 
 -- ## What a plan holds after it
 
-module _ {t t' : Table} (room : Room t) (c : Chain) (steps : List StepFields) (w : Appended t c.fields steps t') where
-  pub contents_added : contents t' ≡ added (contents t) c steps
+module _ (t : Table) (counted : steps_in t.entries.items ≡ length t.rows) (c : Chain) (steps : List StepFields) where
+  pub contents_added : contents (appended t c.fields steps) ≡ added (contents t) c steps
   contents_added =
-      let l = length_table_rows room in
-      let push = chains_push (entries_of t) (record { fields = c.fields; steps = length steps }) (table_rows t) (map (row_of c.fields.period) steps)
-      (room.counted ∙ sym l) (sym (length-map steps (row_of c.fields.period))) in
-      rw (w.entry, w.row, w.start, w.standing, push)
+      let push = chains_push t.entries.items (record { fields = c.fields; steps = length steps }) t.rows (map (row_of c.fields.period) steps) counted (sym (length-map steps (row_of c.fields.period))) in
+      rw push refl
 
-  pub add_accepted : (answer : Meaning) → Done ≡ add_answer (chains_of t) c steps → AddMade answer (contents t) (contents t') c steps Done
+  pub add_accepted : (answer : Meaning) → Done ≡ add_answer (chains_of t) c steps → AddMade answer (contents t) (contents (appended t c.fields steps)) c steps Done
   add_accepted answer e = record { value = e; run = rw contents_added (add_keeps answer (contents t) c steps e) }
 
 pub passes_append : {A : Type 0} (p : A → Bool) (xs ys : List A) → each_passes p xs ≡ true → each_passes p ys ≡ true → each_passes p (xs ++ ys) ≡ true
 passes_append p [] ys e f = f
 passes_append p (x ∷ xs) ys e f = let (a, b) = and_true (p x) (each_passes p xs) e in rw a (passes_append p xs ys b f)
 
--- what the types of a plan's memory promise, after an add
-pub record Sound (t : Table) : Type 0 where
-  pub few_chains : t.entry_count ≤ 16
-  pub few_rows : t.row_count ≤ 64
-  pub rows_counted : steps_in (entries_of t) ≡ t.row_count
-  pub chains_fit : each_passes entry_fits (entries_of t) ≡ true
-  pub rows_fit : each_passes row_fits (table_rows t) ≡ true
-  pub responses_fit_in : responses_fit_in t t.responses ≡ true
-
-pub sound_added : {t t' : Table} → Sound t → (c : Chain) (steps : List StepFields) → Appended t c.fields steps t' →
-    first_bad steps ≡ None → t.entry_count < 16 → t.row_count + length steps ≤ 64 → Sound t'
-sound_added {t} {t'} s c steps w good chains rows =
-    let n = w.chains in
-    let m = w.rows in
+pub sound_added : {t : Table} → Sound t → (c : Chain) (steps : List StepFields) → first_bad steps ≡ None → length t.rows + length steps ≤ 64 → Sound (appended t c.fields steps)
+sound_added {t} s c steps good rows =
     let counted = s.rows_counted in
-    let push = steps_push (entries_of t) (record { fields = c.fields; steps = length steps }) in
+    let push = steps_push t.entries.items (record { fields = c.fields; steps = length steps }) in
+    let more = map (row_of c.fields.period) steps in
+    let l = length-append t.rows more in
+    let m = length-map steps (row_of c.fields.period) in
+    let before = fitting t t.responses.items s.responses_fit in
+    let one_each = length-append t.responses.items _ ∙ ap₂ ◌+◌ before.one_each (length-replicate _ _ ∙ sym m) ∙ sym l in
     record {
-      few_chains = omega arith;
       few_rows = omega arith;
-      rows_counted = rw w.entry (omega arith);
-      chains_fit = rw w.entry (passes_append entry_fits (entries_of t) (record { fields = c.fields; steps = length steps } ∷ []) s.chains_fit (rw c.in_range));
-      rows_fit = rw w.row (passes_append row_fits (table_rows t) (map (row_of c.fields.period) steps) s.rows_fit (each_passes_from row_fits Fits (λ r h. h) (map (row_of c.fields.period) steps) (rows_fit c steps good)));
-      responses_fit_in = rw w.start (passes_append response_fits (responses_of t) (replicate (length steps) 0) s.responses_fit_in (zeros_pass (length steps)));
+      rows_counted = omega arith;
+      chains_fit = passes_append entry_fits t.entries.items (record { fields = c.fields; steps = length steps } ∷ []) s.chains_fit (rw c.in_range);
+      rows_fit = passes_append row_fits t.rows more s.rows_fit (each_passes_from row_fits Fits (λ r h. h) more (rows_fit c steps good));
+      responses_fit = fits_in (appended t c.fields steps) _ one_each (passes_append response_fits t.responses.items (replicate (length steps) 0) before.small (zeros_pass (length steps)));
     }
 
 -- what an accepted add has tested, in terms of the memory
 pub record Tested (t : Table) (steps : List StepFields) : Type 0 where
   pub fields : first_bad steps ≡ None
-  pub chains : t.entry_count < 16
-  pub rows : t.row_count + length steps ≤ 64
+  pub chains : length t.entries.items < 16
+  pub rows : length t.rows + length steps ≤ 64
 
-pub tested : {t : Table} → Room t → length t.entries ≡ 16 → t.entry_count ≤ 16 → (c : Chain) (steps : List StepFields) → Done ≡ add_answer (chains_of t) c steps → Tested t steps
-tested {t} room whole few c steps e =
+pub tested : (t : Table) → steps_in t.entries.items ≡ length t.rows → (c : Chain) (steps : List StepFields) → Done ≡ add_answer (chains_of t) c steps → Tested t steps
+tested t counted c steps e =
     let d = add_done (chains_of t) c steps e in
-    let rows = length_rows_held room in
-    let chains = length_chains (entries_of t) (table_rows t) in
-    let entries = length-take-le t.entry_count t.entries (omega arith) in
+    let rows = ap length (rows_are t.entries.items t.rows counted) in
+    let chains = length_chains t.entries.items t.rows in
     record { fields = d.fields; chains = omega (arith, d.chains); rows = omega (arith, d.rows) }

@@ -1,8 +1,9 @@
 -- A chain less: what a plan holds after a drop, and the drop's step of the law over runs.
-use Rattle.std.proofs.Common.{◌≡◌, ℕ, zero, suc, ◌+◌, ◌-◌, ◌<◌, ◌≤◌, Bool, true, false, cond, ◌||◌, eqb, List, [], ◌∷◌, ◌++◌, length, take, drop, replicate, None, sym, refl, ap, ◌∙◌, add_assoc, zero-add, arith, length-append, take_all, take-add}
+use Rattle.std.proofs.Common.{◌≡◌, ℕ, zero, suc, ◌+◌, ◌<◌, ◌≤◌, Bool, true, false, cond, ◌||◌, eqb, List, [], ◌∷◌, ◌++◌, length, take, drop, remove, refl, ap, ◌∙◌, add_assoc, zero-add, arith, length-append, take_all, take-add}
 use mathlib.Core.Bool.{false≢true}
 use lib.Seq.{take-append-le}
-use Rattle.std.proofs.lemmas.List.{length-take-le, length-drop, drop-drop, drop_at, append_assoc, take-replicate}
+use Rattle.std.proofs.lemmas.List.{length-take-le, length-drop, drop-drop, drop_at, append_assoc}
+use Rattle.std.specs.List.{remove_range}
 use Rattle.records.specs.declared.fields.Row.{Row}
 use Rattle.records.specs.Ranges.{row_fits}
 use Rattle.records.proofs.InRange.{and_true}
@@ -10,32 +11,19 @@ use Rattle.rules.specs.Rules.{each_passes, Meaning}
 use Rattle.law.specs.declared.answers.Answer.{Answer}
 use Rattle.law.specs.declared.answers.Answer.TheVariants.{Done, Refused}
 use Rattle.law.specs.declared.answers.Refusal.TheVariants.{IdUnknown}
-use Rattle.law.specs.Assignments.{Held, rows_of, zeros}
+use Rattle.law.specs.Assignments.{Held, rows_of}
 use Rattle.law.specs.Runs.{without, holds, first_row, steps_of, drop_answer}
 use Rattle.law.specs.Runs.Call.{drop as drop-call}
-use Rattle.law.specs.State.{Contents, dropped, Keeps}
+use Rattle.law.specs.State.{Contents, anew, dropped, Keeps}
 use Rattle.law.proofs.Steps.{drop_keeps, drop_refused_keeps}
 use Rattle.plan.specs.declared.table.Entry.{Entry}
 use Rattle.plan.specs.declared.table.Span.{Span}
 use Rattle.plan.specs.declared.table.Table.{Table}
-use Rattle.plan.specs.Contents.{entries_of, table_rows, in_use, chains_from, chains_of, contents, steps_in, entry_fits, chain_number, closed, with_responses, RowsClosed, EntriesClosed, Removed}
-use Rattle.plan.proofs.Added.{passes_append, Sound}
+use Rattle.plan.specs.Contents.{chains_from, chains_of, contents, steps_in, entry_fits, chain_number, removed}
+use Rattle.plan.proofs.Added.{passes_append}
 use Rattle.plan.proofs.Asking.{Spans}
-use Rattle.plan.proofs.Memory.{Room, length_table_rows, length_rows_held}
-use Rattle.plan.proofs.Solving.{zeros_fit}
-
-pub removed : (t a b c : Table) (span : Span) → RowsClosed t span.first span.steps a → EntriesClosed a span.entry b → c ≡ with_responses b (replicate 64 0) None → Removed t span c
-removed t a b c span r e is =
-    rw is
-    (record {
-      chains = e.chains ∙ ap (λ n. n - 1) r.chains;
-      rows = e.row_total ∙ r.rows;
-      entry = e.entry ∙ rw (r.entries, r.chains);
-      row = rw (e.rows, e.row_total) r.row;
-      start = refl;
-      standing = refl;
-      whole = record { entries = e.whole.entries; rows = e.whole.rows; responses = refl };
-    })
+use Rattle.plan.proofs.Memory.{rows_are, length_chains}
+use Rattle.plan.proofs.Solving.{Sound, forgotten_fits, forgotten_anew}
 
 -- ## The chains without one
 
@@ -43,17 +31,24 @@ removed t a b c span r e is =
 take_all_front : {A : Type 0} (n : ℕ) (xs ys : List A) → length xs ≡ n → take n (xs ++ ys) ≡ xs
 take_all_front n xs ys e = take-append-le n xs ys (omega arith) ∙ take_all n xs (omega arith)
 
-closed_suc : {A : Type 0} (x : A) (n : ℕ) (xs : List A) → closed (1 + n) 1 (x ∷ xs) ≡ x ∷ closed n 1 xs
-closed_suc x n xs = let e : 1 + n ≡ suc n = omega arith in let f : (1 + n) + 1 ≡ suc (n + 1) = omega arith in rw (f, e)
+remove_suc : {A : Type 0} (x : A) (n : ℕ) (xs : List A) → remove (x ∷ xs) (1 + n) ≡ x ∷ remove xs n
+remove_suc x n xs = let e : 1 + n ≡ suc n = omega arith in rw e refl
 
-closed_add : {A : Type 0} (m n gap : ℕ) (xs : List A) → m ≤ length xs → closed (m + n) gap xs ≡ take m xs ++ closed n gap (drop m xs)
-closed_add m n gap xs h =
+remove_add : {A : Type 0} (m n gap : ℕ) (xs : List A) → m ≤ length xs → remove_range xs (m + n) (m + n + gap) ≡ take m xs ++ remove_range (drop m xs) n (n + gap)
+remove_add m n gap xs h =
     rw (add_assoc m n gap, ← drop-drop (n + gap) m xs, ← append_assoc (take m xs) (take n (drop m xs)) (drop (n + gap) (drop m xs)))
     (ap (λ ys. ys ++ drop (n + gap) (drop m xs)) (take-add m n xs))
 
+-- the entries and the rows without the chain of an id
+abbrev entries_left : ℕ → List Entry → List Row → List Entry
+entries_left id es rows = remove es (chain_number (chains_from es rows) id)
+
+abbrev rows_left : ℕ → List Entry → List Row → List Row
+rows_left id es rows = let cs = chains_from es rows in remove_range rows (first_row cs id) (first_row cs id + steps_of cs id)
+
 -- the chains of the memory that closed up are the chains without the one that went out
 pub without_is : (id : ℕ) (es : List Entry) (rows : List Row) → steps_in es ≡ length rows → holds (chains_from es rows) id ≡ true →
-    chains_from (closed (chain_number (chains_from es rows) id) 1 es) (closed (first_row (chains_from es rows) id) (steps_of (chains_from es rows) id) rows) ≡ without id (chains_from es rows)
+    chains_from (entries_left id es rows) (rows_left id es rows) ≡ without id (chains_from es rows)
 without_is id [] rows h t = absurd (false≢true t)
 without_is id (e ∷ es) rows h t =
     let d = length-drop e.steps rows in
@@ -63,17 +58,18 @@ without_is id (e ∷ es) rows h t =
     cs = chains_from es (drop e.steps rows)
 
     by : (b : Bool) → length (take e.steps rows) ≡ e.steps → (b || holds cs id) ≡ true →
-        (holds cs id ≡ true → chains_from (closed (chain_number cs id) 1 es) (closed (first_row cs id) (steps_of cs id) (drop e.steps rows)) ≡ without id cs) →
-        chains_from (closed (cond b 0 (1 + chain_number cs id)) 1 (e ∷ es)) (closed (cond b 0 (length (take e.steps rows) + first_row cs id)) (cond b (length (take e.steps rows)) (steps_of cs id)) rows)
+        (holds cs id ≡ true → chains_from (entries_left id es (drop e.steps rows)) (rows_left id es (drop e.steps rows)) ≡ without id cs) →
+        let first = cond b 0 (length (take e.steps rows) + first_row cs id) in
+        chains_from (remove (e ∷ es) (cond b 0 (1 + chain_number cs id))) (remove_range rows first (first + cond b (length (take e.steps rows)) (steps_of cs id)))
         ≡ cond b cs (record { chain = e.fields; rows = take e.steps rows } ∷ without id cs)
     by true l t rec = rw (l, zero-add e.steps)
     by false l t rec =
         rw (
           l,
-          closed_suc e (chain_number cs id) es,
-          closed_add e.steps (first_row cs id) (steps_of cs id) rows (omega arith),
-          take_all_front e.steps (take e.steps rows) (closed (first_row cs id) (steps_of cs id) (drop e.steps rows)) l,
-          drop_at (take e.steps rows) (closed (first_row cs id) (steps_of cs id) (drop e.steps rows)) e.steps l,
+          remove_suc e (chain_number cs id) es,
+          remove_add e.steps (first_row cs id) (steps_of cs id) rows (omega arith),
+          take_all_front e.steps (take e.steps rows) (rows_left id es (drop e.steps rows)) l,
+          drop_at (take e.steps rows) (rows_left id es (drop e.steps rows)) e.steps l,
         )
         (ap (λ rest. record { chain = e.fields; rows = take e.steps rows } ∷ rest) (rec t))
 
@@ -97,20 +93,20 @@ rows_inside (c ∷ cs) id t = by (eqb c.chain.id id) t (rows_inside cs id)
     by false t rec = let r = rec t in simp length-append (omega arith)
 
 -- the steps that are left
-steps_closed : (id : ℕ) (es : List Entry) (rows : List Row) → steps_in es ≡ length rows → holds (chains_from es rows) id ≡ true →
-    steps_in (closed (chain_number (chains_from es rows) id) 1 es) + steps_of (chains_from es rows) id ≡ steps_in es
-steps_closed id [] rows h t = absurd (false≢true t)
-steps_closed id (e ∷ es) rows h t =
+steps_kept : (id : ℕ) (es : List Entry) (rows : List Row) → steps_in es ≡ length rows → holds (chains_from es rows) id ≡ true →
+    steps_in (entries_left id es rows) + steps_of (chains_from es rows) id ≡ steps_in es
+steps_kept id [] rows h t = absurd (false≢true t)
+steps_kept id (e ∷ es) rows h t =
     let d = length-drop e.steps rows in
-    by (eqb e.fields.id id) (length-take-le e.steps rows (omega arith)) t (steps_closed id es (drop e.steps rows) (omega arith))
+    by (eqb e.fields.id id) (length-take-le e.steps rows (omega arith)) t (steps_kept id es (drop e.steps rows) (omega arith))
   where
     cs : List Held
     cs = chains_from es (drop e.steps rows)
 
-    by : (b : Bool) → length (take e.steps rows) ≡ e.steps → (b || holds cs id) ≡ true → (holds cs id ≡ true → steps_in (closed (chain_number cs id) 1 es) + steps_of cs id ≡ steps_in es) →
-        steps_in (closed (cond b 0 (1 + chain_number cs id)) 1 (e ∷ es)) + cond b (length (take e.steps rows)) (steps_of cs id) ≡ e.steps + steps_in es
+    by : (b : Bool) → length (take e.steps rows) ≡ e.steps → (b || holds cs id) ≡ true → (holds cs id ≡ true → steps_in (entries_left id es (drop e.steps rows)) + steps_of cs id ≡ steps_in es) →
+        steps_in (remove (e ∷ es) (cond b 0 (1 + chain_number cs id))) + cond b (length (take e.steps rows)) (steps_of cs id) ≡ e.steps + steps_in es
     by true l t rec = omega arith
-    by false l t rec = let r = rec t in rw (closed_suc e (chain_number cs id) es) (omega arith)
+    by false l t rec = let r = rec t in rw (remove_suc e (chain_number cs id) es) (omega arith)
 
 -- ## What a plan holds after a drop
 
@@ -124,37 +120,47 @@ passes_drop p zero xs e = e
 passes_drop p (suc n) [] e = e
 passes_drop p (suc n) (x ∷ xs) e = passes_drop p n xs (and_true (p x) (each_passes p xs) e).1
 
-passes_closed : {A : Type 0} (p : A → Bool) (at gap : ℕ) (xs : List A) → each_passes p xs ≡ true → each_passes p (closed at gap xs) ≡ true
-passes_closed p at gap xs e = passes_append p (take at xs) (drop (at + gap) xs) (passes_take p at xs e) (passes_drop p (at + gap) xs e)
+length_removed : {A : Type 0} (xs : List A) (at gap : ℕ) → at + gap ≤ length xs → length (remove_range xs at (at + gap)) + gap ≡ length xs
+length_removed xs at gap h =
+    let a = length-append (take at xs) (drop (at + gap) xs) in
+    let b = length-take-le at xs (omega arith) in
+    let d = length-drop (at + gap) xs in
+    omega arith
 
-module _ {t t' : Table} (room : Room t) (before : Sound t) (id : ℕ) (span : Span) (found : Spans (chains_of t) id span) (w : Removed t span t') where
-  pub sound_removed : Sound t'
-  sound_removed =
-      let n = w.chains in
-      let m = w.rows in
-      let few = before.few_chains in
-      let rows = before.few_rows in
+module _ {t : Table} (before : Sound t) (id : ℕ) (span : Span) (found : Spans (chains_of t) id span) where
+  -- where the chain's rows lie
+  pub span_inside : (span.entry < length t.entries.items) × (span.first + span.steps ≤ length t.rows)
+  span_inside =
+      let rows = ap length (rows_are t.entries.items t.rows before.rows_counted) in
+      let chains = length_chains t.entries.items t.rows in
+      let chain = chain_inside (chains_of t) id found.holds in
+      let inside = rows_inside (chains_of t) id found.holds in
+      (omega (arith, found.entry), omega (arith, found.first, found.steps))
+
+  counted_left : steps_in (removed t span).entries.items ≡ length (removed t span).rows
+  counted_left =
+      let l = length_removed t.rows span.first span.steps span_inside.1 in
+      let left = steps_kept id t.entries.items t.rows before.rows_counted found.holds in
       let counted = before.rows_counted in
-      let l = length_table_rows room in
-      let left = steps_closed id (entries_of t) (table_rows t) (room.counted ∙ sym l) found.holds in
       let steps = found.steps in
+      rw found.entry (omega arith)
+
+  pub sound_removed : Sound (removed t span)
+  sound_removed =
+      let few = before.few_rows in
+      let l = length_removed t.rows span.first span.steps span_inside.1 in
       record {
-        few_chains = omega arith;
         few_rows = omega arith;
-        rows_counted = rw (w.entry, found.entry) (omega arith);
-        chains_fit = rw w.entry (passes_closed entry_fits span.entry 1 (entries_of t) before.chains_fit);
-        rows_fit = rw w.row (passes_closed row_fits span.first span.steps (table_rows t) before.rows_fit);
-        responses_fit_in = rw w.start (zeros_fit t'.row_count (omega arith));
+        rows_counted = counted_left;
+        chains_fit = passes_append entry_fits (take span.entry t.entries.items) _ (passes_take entry_fits span.entry t.entries.items before.chains_fit) (passes_drop entry_fits (suc span.entry) t.entries.items before.chains_fit);
+        rows_fit = passes_append row_fits (take span.first t.rows) _ (passes_take row_fits span.first t.rows before.rows_fit) (passes_drop row_fits (span.first + span.steps) t.rows before.rows_fit);
+        responses_fit = forgotten_fits (removed t span);
       }
 
-  pub contents_dropped : contents t' ≡ dropped (contents t) id
+  pub contents_dropped : contents (removed t span) ≡ dropped (contents t) id
   contents_dropped =
-      let s = sound_removed in
-      let after : Room t' = record { rows = w.whole.rows; few = s.few_rows; counted = s.rows_counted } in
-      let l = length_table_rows room in
-      let chains : chains_of t' ≡ without id (chains_of t) = rw (w.entry, w.row, found.entry, found.first, found.steps) (without_is id (entries_of t) (table_rows t) (room.counted ∙ sym l) found.holds) in
-      let start : in_use t' t'.responses ≡ zeros (chains_of t') = rw (w.start, length_rows_held after) (take-replicate {X = ℕ} t'.row_count 64 0 s.few_rows) in
-      rw (start, chains, w.standing)
+      let chains : chains_of (removed t span) ≡ without id (chains_of t) = rw (found.entry, found.first, found.steps) (without_is id t.entries.items t.rows before.rows_counted found.holds) in
+      forgotten_anew (removed t span) counted_left ∙ ap anew chains
 
 -- a drop's answer, with its step of the law over runs
 pub record DropMade (answer : Meaning) (before after : Contents) (id : ℕ) (a : Answer) : Type 0 where

@@ -1,5 +1,5 @@
 -- Where chains and rows stand: the entries of a plan's memory, read one by one, against the chains that they say.
-use Rattle.std.proofs.Common.{◌≡◌, ℕ, suc, ◌+◌, ◌-◌, ◌<◌, ◌≤◌, Bool, true, false, cond, ◌||◌, eqb, ltb, List, [], ◌∷◌, ◌++◌, length, get_or, take, drop, Some, None, Option, sym, refl, ap, ◌∙◌, add-zero, add_assoc, zero-add, arith, take_all}
+use Rattle.std.proofs.Common.{◌≡◌, ℕ, suc, ◌+◌, ◌-◌, ◌<◌, ◌≤◌, Bool, true, false, cond, ◌||◌, eqb, ltb, List, [], ◌∷◌, ◌++◌, length, get_or, take, drop, Some, None, Option, refl, ap, add-zero, add_assoc, zero-add, arith, take_all}
 use Rattle.std.proofs.lemmas.List.{length-take-le, length-drop, take-append-drop, at_drop_more, at_drop_all, drop-append-le}
 use lib.Seq.{take-append-le}
 use Rattle.std.proofs.lemmas.Bool.{eq-eqb, ne_eqb, lt-ltb, le-ltb}
@@ -9,8 +9,7 @@ use Rattle.law.specs.Runs.{holds, first_row, steps_of}
 use Rattle.plan.specs.declared.table.Entry.{Entry}
 use Rattle.plan.specs.declared.table.Place.{Place}
 use Rattle.plan.specs.declared.table.Span.{Span}
-use Rattle.plan.specs.declared.table.Table.{Table}
-use Rattle.plan.specs.Contents.{entries_of, table_rows, chains_from, chains_of, steps_in, chain_number, span_of, place_in}
+use Rattle.plan.specs.Contents.{chains_from, steps_in, chain_number, span_of, place_in}
 
 -- the rows of the chains are the rows held
 pub rows_are : (es : List Entry) (rows : List Row) → steps_in es ≡ length rows → rows_of (chains_from es rows) ≡ rows
@@ -36,27 +35,6 @@ chains_push (x ∷ es) e rows more h k =
 pub steps_push : (es : List Entry) (e : Entry) → steps_in (es ++ e ∷ []) ≡ steps_in es + e.steps
 steps_push [] e = omega arith
 steps_push (x ∷ es) e = let r = steps_push es e in omega arith
-
--- ## Room for the rows
-
--- what holds of a plan's memory, as far as its rows go
-pub record Room (t : Table) : Type 0 where
-  pub rows : length t.rows ≡ 64
-  pub few : t.row_count ≤ 64
-  pub counted : steps_in (entries_of t) ≡ t.row_count
-
-module _ {t : Table} (room : Room t) where
-  pub length_table_rows : length (table_rows t) ≡ t.row_count
-  length_table_rows = let l = room.rows in let f = room.few in length-take-le t.row_count t.rows (omega arith)
-
-  pub room_enough : steps_in (entries_of t) ≤ length (table_rows t)
-  room_enough = let l = length_table_rows in let c = room.counted in omega arith
-
-  pub rows_held : rows_of (chains_of t) ≡ table_rows t
-  rows_held = rows_are (entries_of t) (table_rows t) (room.counted ∙ sym length_table_rows)
-
-  pub length_rows_held : length (rows_of (chains_of t)) ≡ t.row_count
-  length_rows_held = rw rows_held length_table_rows
 
 -- ## Where a chain stands
 

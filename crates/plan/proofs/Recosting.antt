@@ -1,8 +1,9 @@
 -- Another cost for one step: what a plan holds after a recost, and the recost's step of the law over runs.
-use Rattle.std.proofs.Common.{◌≡◌, ℕ, zero, suc, ◌+◌, ◌-◌, ◌<◌, ◌≤◌, Bool, true, false, cond, ◌||◌, eqb, ◌⊎◌, List, [], ◌∷◌, length, take, drop, set, replicate, None, Ok, Err, Result, sym, refl, ap, ◌∙◌, inl, inr, zero-add, arith, length-set, get_or-drop, get_or-take}
+use Rattle.std.proofs.Common.{◌≡◌, ℕ, zero, suc, ◌+◌, ◌-◌, ◌<◌, ◌≤◌, Bool, true, false, cond, ◌||◌, eqb, ◌⊎◌, List, [], ◌∷◌, length, take, drop, set, Option, Ok, Err, Result, sym, refl, ap, ◌∙◌, inl, inr, zero-add, arith, length-set, get_or-drop, get_or-take}
+use Rattle.arrayvec.specs.ArrayVec.{ArrayVec}
 use mathlib.Core.Bool.{false≢true}
 use lib.Seq.{take-set-lt, take-set-le}
-use Rattle.std.proofs.lemmas.List.{length-take-le, length-drop, drop-set-lt, drop-set-add, take-replicate}
+use Rattle.std.proofs.lemmas.List.{length-take, length-take-le, length-drop, drop-set-lt, drop-set-add}
 use Rattle.std.proofs.lemmas.Bool.{le-leb, lt-leb}
 use Rattle.records.specs.declared.fields.Row.{Row}
 use Rattle.records.specs.Ranges.{within, row_fits}
@@ -13,20 +14,19 @@ use Rattle.law.specs.declared.answers.Answer.{Answer}
 use Rattle.law.specs.declared.answers.Answer.TheVariants.{Done, Refused}
 use Rattle.law.specs.declared.answers.Refusal.{Refusal}
 use Rattle.law.specs.declared.answers.Refusal.TheVariants.{IdUnknown, NoSuchStep, CostOutOfRange}
-use Rattle.law.specs.Assignments.{Held, zeros}
+use Rattle.law.specs.Assignments.{Held}
 use Rattle.law.specs.Runs.{costing, with_cost, recosted_chain, recosted, holds, first_row, steps_of, place_of, need, at_step, recost_answer}
 use Rattle.law.specs.Runs.Call.{recost}
-use Rattle.law.specs.State.{Contents, recosts, Keeps}
+use Rattle.law.specs.State.{Contents, anew, recosts, Keeps}
 use Rattle.law.proofs.Chains.{Fits}
 use Rattle.law.proofs.RunLaw.{costing_fits}
 use Rattle.law.proofs.Steps.{recost_keeps, recost_refused_keeps}
 use Rattle.plan.specs.declared.table.Entry.{Entry}
 use Rattle.plan.specs.declared.table.Table.{Table}
-use Rattle.plan.specs.Contents.{entries_of, table_rows, in_use, chains_from, chains_of, contents, steps_in, row_named}
-use Rattle.plan.proofs.Added.{Sound}
+use Rattle.plan.specs.Contents.{chains_from, chains_of, contents, steps_in, row_named, forgotten}
 use Rattle.plan.proofs.Asking.{at_step_refused, at_step_held}
-use Rattle.plan.proofs.Memory.{Room, length_table_rows, length_rows_held}
-use Rattle.plan.proofs.Solving.{zeros_fit}
+use Rattle.plan.proofs.Solving.{Sound, forgotten_anew}
+use Rattle.plan.proofs.Timing.{fitting, fits_in}
 
 -- ## One row written
 
@@ -85,10 +85,18 @@ recosted_is id k cost (e ∷ es) rows h n =
 
 -- ## What a plan holds after a recost
 
--- the memory with another cost at one row, and every response forgotten
-abbrev pub recosted_table : Table → ℕ → ℕ → Table
-recosted_table t n cost =
-    record { entries = t.entries; entry_count = t.entry_count; rows = costing_at n cost t.rows; row_count = t.row_count; responses = replicate 64 0; standing = None }
+-- the memory with another cost at one row
+abbrev pub cost_at : Table → ℕ → ℕ → Table
+cost_at t n cost = record { entries = t.entries; rows = costing_at n cost t.rows; responses = t.responses; standing = t.standing }
+
+-- a write to the row's place in the array is that
+pub row_written : {t : Table} {entries : ArrayVec Entry} {responses : ArrayVec ℕ} {standing : Option ℕ} {n : ℕ} {place : Row} (places : List Row) (count cost : ℕ) →
+    record { entries = entries; rows = take count places; responses = responses; standing = standing } ≡ t → n < length t.rows → place ≡ costing cost (row t.rows n) →
+    record { entries = entries; rows = take count (set places n place); responses = responses; standing = standing } ≡ cost_at t n cost
+row_written {t} {entries} {responses} {standing} {n} {place} places count cost is inside e =
+    let l = length-take count places in
+    let m = ap (λ (u : Table). length u.rows) is in
+    rw (← is, take-set-lt count places n place (omega arith)) (ap (λ r. record { entries = entries; rows = set (take count places) n r; responses = responses; standing = standing }) (e ∙ ap (λ (u : Table). costing cost (row u.rows n)) (sym is)))
 
 passes_set : {A : Type 0} (p : A → Bool) (xs : List A) (i : ℕ) (y : A) → each_passes p xs ≡ true → p y ≡ true → each_passes p (set xs i y) ≡ true
 passes_set p [] i y e f = e
@@ -104,36 +112,30 @@ named_from cs i k n e = by (holds cs i) refl (within 1 (steps_of cs i) k) refl e
     by true p false q e = let z : ◌≡◌ {A = ℕ} 0 1 = cc in absurd (omega arith)
     by false p b q e = let z : ◌≡◌ {A = ℕ} 0 1 = cc in absurd (omega arith)
 
-module _ {t : Table} (room : Room t) (before : Sound t) (n cost : ℕ) (inside : n < t.row_count) (range : (1 ≤ cost) × (cost ≤ 1000000)) where
-  rows_recosted : table_rows (recosted_table t n cost) ≡ costing_at n cost (table_rows t)
-  rows_recosted = take-set-lt t.row_count t.rows n (costing cost (row t.rows n)) inside ∙ ap (λ (r : Row). set (table_rows t) n (costing cost r)) (sym (get_or-take t.row_count t.rows n no_row inside))
+module _ {t : Table} (before : Sound t) (n cost : ℕ) (inside : n < length t.rows) (range : (1 ≤ cost) × (cost ≤ 1000000)) where
+  counted : steps_in t.entries.items ≡ length (costing_at n cost t.rows)
+  counted = before.rows_counted ∙ sym (length-set t.rows n (costing cost (row t.rows n)))
 
-  pub sound_recosted : Sound (recosted_table t n cost)
-  sound_recosted =
-      let l = length_table_rows room in
-      let fits = passes_each row_fits Fits (λ r h. h) (table_rows t) before.rows_fit in
-      let fit = each_at Fits (table_rows t) n no_row fits (omega arith) in
+  pub sound_costed : Sound (cost_at t n cost)
+  sound_costed =
+      let few = before.few_rows in
+      let l = length-set t.rows n (costing cost (row t.rows n)) in
+      let fits = passes_each row_fits Fits (λ r h. h) t.rows before.rows_fit in
+      let fit = each_at Fits t.rows n no_row fits inside in
+      let kept = fitting t t.responses.items before.responses_fit in
       record {
-        few_chains = before.few_chains;
-        few_rows = before.few_rows;
-        rows_counted = before.rows_counted;
+        few_rows = omega arith;
+        rows_counted = counted;
         chains_fit = before.chains_fit;
-        rows_fit = rw rows_recosted (passes_set row_fits (table_rows t) n (costing cost (row (table_rows t) n)) before.rows_fit (costing_fits cost (row (table_rows t) n) range fit));
-        responses_fit_in = zeros_fit t.row_count before.few_rows;
+        rows_fit = passes_set row_fits t.rows n (costing cost (row t.rows n)) before.rows_fit (costing_fits cost (row t.rows n) range fit);
+        responses_fit = fits_in (cost_at t n cost) t.responses.items (kept.one_each ∙ sym l) kept.small;
       }
 
-  pub rows_room_recosted : length (recosted_table t n cost).rows ≡ 64
-  rows_room_recosted = let r = room.rows in simp length-set r
-
-  pub contents_recosted : (id k : ℕ) → Ok n ≡ row_named (chains_of t) id k → contents (recosted_table t n cost) ≡ recosts (contents t) id k cost
+  pub contents_recosted : (id k : ℕ) → Ok n ≡ row_named (chains_of t) id k → contents (forgotten (cost_at t n cost)) ≡ recosts (contents t) id k cost
   contents_recosted id k e =
       let (named, at) = named_from (chains_of t) id k n e in
-      let l = length_table_rows room in
-      let after : Room (recosted_table t n cost) = record { rows = rows_room_recosted; few = room.few; counted = room.counted } in
-      let chains : chains_of (recosted_table t n cost) ≡ recosted id k cost (chains_of t) =
-      rw (rows_recosted, at) (recosted_is id k cost (entries_of t) (table_rows t) (room.counted ∙ sym l) named) in
-      let start : in_use t (replicate 64 0) ≡ zeros (chains_of (recosted_table t n cost)) = rw (length_rows_held after) (take-replicate {X = ℕ} t.row_count 64 0 room.few) in
-      rw (start, chains)
+      let chains : chains_of (cost_at t n cost) ≡ recosted id k cost (chains_of t) = rw at (recosted_is id k cost t.entries.items t.rows before.rows_counted named) in
+      forgotten_anew (cost_at t n cost) counted ∙ ap anew chains
 
 -- a recost's answer, with its step of the law over runs
 pub record RecostMade (answer : Meaning) (before after : Contents) (id k cost : ℕ) (a : Answer) : Type 0 where

@@ -1,73 +1,62 @@
 -- The jitters and responses of a plan's rows: what single reads of its memory come to.
-use Rattle.std.proofs.Common.{◌≡◌, ℕ, zero, suc, ◌+◌, ◌-◌, ◌*◌, ◌<◌, ◌≤◌, Bool, true, false, List, [], ◌∷◌, ◌++◌, length, get_or, take, drop, set, replicate, Some, None, sym, refl, ap, ◌∙◌, ap₂, le_refl, add_assoc, suc-mul, mul-le-mul, zero-add, zero-mul, add-one, arith, length-take-le, get_or-take}
-use Rattle.std.proofs.lemmas.List.{take_more, take_more_set, length-drop, at_drop_more}
-use Rattle.std.proofs.lemmas.Bool.{leb-true, le-leb, eq-eqb, ne_eqb}
+use Rattle.std.proofs.Common.{◌≡◌, ℕ, zero, suc, ◌+◌, ◌-◌, ◌*◌, ◌<◌, ◌≤◌, Bool, true, false, cond, eqb, leb, List, [], ◌∷◌, ◌++◌, length, get_or, drop, replicate, Some, None, Option, MatchOption, sym, refl, ap, ◌∙◌, ap₂, le_refl, add_assoc, suc-mul, mul-le-mul, zero-add, zero-mul, add-one, arith}
+use Rattle.std.proofs.lemmas.List.{length-take-le, length-drop, at_drop_more}
+use Rattle.std.specs.Bool.{then_some}
+use Rattle.std.proofs.lemmas.Bool.{leb-true, eqb-true, eq-eqb, ne_eqb}
 use Rattle.records.specs.declared.fields.Row.{Row}
 use Rattle.records.specs.Ranges.{row_fits}
 use Rattle.records.proofs.InRange.{chain_in_range, row_in_range, and_true}
 use Rattle.rules.specs.Rules.{Meaning, each_passes, row, no_row}
 use Rattle.rules.proofs.Lists.{passes_each, each_at}
 use Rattle.law.specs.Assignments.{Held, rows_of, deadlines_of, jitters_of, total}
-use Rattle.law.specs.State.{all_of, row_response, round, same}
-use Rattle.law.proofs.Steps.{all_of_none, same_refl, not_same}
+use Rattle.law.specs.State.{kept_within, all_of, row_response, round}
+use Rattle.law.proofs.Steps.{all_of_none}
 use Rattle.plan.specs.declared.table.Entry.{Entry}
 use Rattle.plan.specs.declared.table.Place.{Place}
 use Rattle.plan.specs.declared.table.Table.{Table}
-use Rattle.plan.specs.Contents.{entries_of, table_rows, chains_from, chains_of, steps_in, entry_fits, in_use, response_fits, responses_fit_in, place_in}
-use Rattle.plan.proofs.Memory.{Room, length_table_rows, rows_held, length_rows_held, no_entry, next_steps}
+use Rattle.plan.specs.Contents.{chains_from, steps_in, entry_fits, response_fits, responses_fit_in, place_in}
+use Rattle.plan.proofs.Memory.{rows_are, no_entry, next_steps}
 use Rattle.plan.proofs.Places.{before, jitter_at}
 
-module _ {t : Table} (room : Room t) (k : ℕ) (inside : k < t.row_count) where
+module _ (es : List Entry) (rows : List Row) (counted : steps_in es ≡ length rows) (k : ℕ) (inside : k < length rows) where
   -- a row that is read is one of the rows held
-  pub row_read : row (rows_of (chains_of t)) k ≡ row t.rows k
-  row_read = rw (rows_held room) (get_or-take t.row_count t.rows k no_row inside)
+  pub row_read : row (rows_of (chains_from es rows)) k ≡ row rows k
+  row_read = rw (rows_are es rows counted) refl
 
-  pub delay_small : each_passes row_fits (table_rows t) ≡ true → (row t.rows k).step.delay ≤ 1000000
+  pub delay_small : each_passes row_fits rows ≡ true → (row rows k).step.delay ≤ 1000000
   delay_small fit =
-      let l = length_table_rows room in
-      let f = passes_each row_fits (λ r. row_fits r ≡ true) (λ r h. h) (table_rows t) fit in
-      let h = each_at (λ r. row_fits r ≡ true) (table_rows t) k no_row f (omega arith) in
-      (row_in_range (row t.rows k) (rw (get_or-take t.row_count t.rows k no_row inside) at h)).step.delay
+      let f = passes_each row_fits (λ r. row_fits r ≡ true) (λ r h. h) rows fit in
+      (row_in_range (row rows k) (each_at (λ r. row_fits r ≡ true) rows k no_row f inside)).step.delay
 
-  module _ (responses : List ℕ) (whole : length responses ≡ 64) where
-    pub response_small : (i : ℕ) → i < t.row_count → responses_fit_in t responses ≡ true → get_or responses i 0 ≤ 1000000
-    response_small i h fit =
-        let few = room.few in
-        let l = length-take-le t.row_count responses (omega arith) in
-        let f = passes_each response_fits (λ x. x ≤ 1000000) (λ x. leb-true x 1000000) (in_use t responses) fit in
-        rw (get_or-take t.row_count responses i 0 h) at (each_at (λ x. x ≤ 1000000) (in_use t responses) i 0 f (omega arith))
+  -- a jitter as it is worked out
+  pub jitter_is : (xs : List ℕ) → length xs ≡ length rows → (p : Place) (b : ℕ) → Some p ≡ place_in (chains_from es rows) k → b ≡ before p.chain.arrival_jitter xs k p.step →
+      b + (row rows k).step.delay ≡ get_or (jitters_of (chains_from es rows) xs) k 0
+  jitter_is xs one_each p b found is =
+      let n = ap length (rows_are es rows counted) in
+      let j = jitter_at (chains_from es rows) xs k p found (omega arith) in
+      let d = ap (λ (r : Row). r.step.delay) row_read in
+      let w = rw d at j in
+      sym (rw (← is) at w)
 
-    -- a jitter as it is worked out
-    pub jitter_is : (p : Place) (b : ℕ) → Some p ≡ place_in (chains_of t) k → b ≡ before p.chain.arrival_jitter responses k p.step →
-        b + (row t.rows k).step.delay ≡ get_or (jitters_of (chains_of t) (in_use t responses)) k 0
-    jitter_is p b found is =
-        let few = room.few in
-        let n = length_rows_held room in
-        let l = length-take-le t.row_count responses (omega arith) in
-        let j = jitter_at (chains_of t) (in_use t responses) k p found (omega arith) in
-        let d = ap (λ (r : Row). r.step.delay) row_read in
-        let e : get_or (in_use t responses) (k - 1) 0 ≡ get_or responses (k - 1) 0 = get_or-take t.row_count responses (k - 1) 0 (omega arith) in
-        let w = rw (e, d) at j in
-        sym (rw (← is) at w)
+pub response_small : (xs : List ℕ) (i : ℕ) → each_passes response_fits xs ≡ true → i < length xs → get_or xs i 0 ≤ 1000000
+response_small xs i fit h = each_at (λ x. x ≤ 1000000) xs i 0 (passes_each response_fits (λ x. x ≤ 1000000) (λ x. leb-true x 1000000) xs fit) h
+
+-- responses that fit a memory: one for each row, and each is small
+pub record Fitting (t : Table) (xs : List ℕ) : Type 0 where
+  pub one_each : length xs ≡ length t.rows
+  pub small : each_passes response_fits xs ≡ true
+
+pub fitting : (t : Table) (xs : List ℕ) → responses_fit_in t xs ≡ true → Fitting t xs
+fitting t xs e = let (a, b) = and_true (eqb (length xs) (length t.rows)) (each_passes response_fits xs) e in record { one_each = eqb-true (length xs) (length t.rows) a; small = b }
+
+pub fits_in : (t : Table) (xs : List ℕ) → length xs ≡ length t.rows → each_passes response_fits xs ≡ true → responses_fit_in t xs ≡ true
+fits_in t xs e f = rw (f, eq-eqb (length xs) (length t.rows) e)
 
 pub first_before : (arrival : ℕ) (responses : List ℕ) (k step : ℕ) → step ≡ 0 → arrival ≡ before arrival responses k step
 first_before arrival responses k step e = rw (eq-eqb step 0 e)
 
 pub later_before : (arrival : ℕ) (responses : List ℕ) (k step : ℕ) → (step ≡ 0 → ⊥) → get_or responses (k - 1) 0 ≡ before arrival responses k step
 later_before arrival responses k step ne = rw (ne_eqb step 0 ne)
-
--- ## Loops that fill and compare
-
--- one more number written where the list wanted has it
-pub filled_more : (xs js : List ℕ) (i : ℕ) → i < length xs → i < length js → take i xs ≡ take i js → take (i + 1) (set xs i (get_or js i 0)) ≡ take (i + 1) js
-filled_more xs js i h k e = rw (take_more_set xs i (get_or js i 0) h, take_more js i 0 k, e)
-
--- lists that differ at a place below n are not the same
-pub differ_at : (n : ℕ) (xs ys : List ℕ) (i : ℕ) → i < n → (get_or xs i 0 ≡ get_or ys i 0 → ⊥) → same (take n xs) (take n ys) ≡ false
-differ_at n xs ys i h ne = not_same (take n xs) (take n ys) (λ e. ne (sym (get_or-take n xs i 0 h) ∙ ap (λ zs. get_or zs i 0) e ∙ get_or-take n ys i 0 h))
-
-pub same_from : (xs ys : List ℕ) → xs ≡ ys → same xs ys ≡ true
-same_from xs ys e = rw e (same_refl ys)
 
 -- ## The deadlines of all rows, entry by entry
 
@@ -110,12 +99,9 @@ pub record Turn (es : List Entry) (k sum : ℕ) (x : Entry) : Type 0 where
   pub small : sum + x.steps * x.fields.deadline.ticks ≤ 64000001
   pub next : (sum + x.steps * x.fields.deadline.ticks) + deadlines_in (drop (k + 1) es) ≡ 1 + deadlines_in es
 
-pub sum_turn : {t : Table} → Room t → each_passes entry_fits (entries_of t) ≡ true → (xs : List Entry) → xs ≡ entries_of t → (k sum : ℕ) → k < length xs →
-    sum + deadlines_in (drop k (entries_of t)) ≡ 1 + deadlines_in (entries_of t) → Turn (entries_of t) k sum (get_or xs k no_entry)
-sum_turn {t} room fit xs e k sum inside inv =
-    let es = entries_of t in
-    let few = room.few in
-    let counted = room.counted in
+pub sum_turn : (es : List Entry) → steps_in es ≤ 64 → each_passes entry_fits es ≡ true → (xs : List Entry) → xs ≡ es → (k sum : ℕ) → k < length xs →
+    sum + deadlines_in (drop k es) ≡ 1 + deadlines_in es → Turn es k sum (get_or xs k no_entry)
+sum_turn es few fit xs e k sum inside inv =
     let s = next_steps xs e k inside in
     let left = steps_left es k in
     let d : deadlines_in (drop k es) ≡ (get_or xs k no_entry).steps * (get_or xs k no_entry).fields.deadline.ticks + deadlines_in (drop (k + 1) es) =
@@ -126,21 +112,27 @@ sum_turn {t} room fit xs e k sum inside inv =
 -- ## The responses of a round, row by row
 
 module _ (answer : Meaning) (cs : List Held) (xs : List ℕ) where
-  pub round_refused : (n k : ℕ) → length (rows_of cs) ≡ n → k < n → None ≡ row_response answer cs xs k → None ≡ round answer cs xs
+  pub round_refused : (k : ℕ) → k < length (rows_of cs) → None ≡ row_response answer cs xs k → None ≡ round answer cs xs
   unfolding round
-  round_refused n k l h e = all_of_none (row_response answer cs xs) (length (rows_of cs)) k (omega arith) e
+  round_refused k h e = all_of_none (row_response answer cs xs) (length (rows_of cs)) k h e
 
-  pub round_next : (next : List ℕ) (k y : ℕ) → k < length next → all_of (row_response answer cs xs) k ≡ Some (take k next) → Some y ≡ row_response answer cs xs k →
-      all_of (row_response answer cs xs) (k + 1) ≡ Some (take (k + 1) (set next k y))
-  round_next next k y h front e = rw (take_more_set next k y h, add-one k, front, ← e)
+  pub round_next : (next : List ℕ) (k y : ℕ) → all_of (row_response answer cs xs) k ≡ Some next → Some y ≡ row_response answer cs xs k → all_of (row_response answer cs xs) (k + 1) ≡ Some (next ++ y ∷ [])
+  round_next next k y front e = rw (add-one k, front, ← e)
 
-  pub round_done : (next : List ℕ) (n k : ℕ) → length (rows_of cs) ≡ n → k ≡ n → all_of (row_response answer cs xs) k ≡ Some (take k next) → Some (take n next) ≡ round answer cs xs
+  pub round_done : (next : List ℕ) (k : ℕ) → k ≡ length (rows_of cs) → all_of (row_response answer cs xs) k ≡ Some next → Some next ≡ round answer cs xs
   unfolding round
-  round_done next n k l e all = rw (l, ← e) (sym all)
+  round_done next k e all = rw (← e) (sym all)
 
-passes_push : (p : ℕ → Bool) (xs : List ℕ) (y : ℕ) → each_passes p xs ≡ true → p y ≡ true → each_passes p (xs ++ y ∷ []) ≡ true
+pub passes_push : (p : ℕ → Bool) (xs : List ℕ) (y : ℕ) → each_passes p xs ≡ true → p y ≡ true → each_passes p (xs ++ y ∷ []) ≡ true
 passes_push p [] y e f = rw f
 passes_push p (x ∷ xs) y e f = let (a, b) = and_true (p x) (each_passes p xs) e in rw a (passes_push p xs y b f)
 
-pub small_next : (next : List ℕ) (k y : ℕ) → k < length next → each_passes response_fits (take k next) ≡ true → y ≤ 1000000 → each_passes response_fits (take (k + 1) (set next k y)) ≡ true
-small_next next k y h front s = rw (take_more_set next k y h) (passes_push response_fits (take k next) y front (le-leb y 1000000 s))
+-- a response that is filtered by its deadline is kept within it
+pub filtered : {P : ℕ → Bool → Type 0} (o r : Option ℕ) (d : ℕ) → ((x : ℕ) (b : Bool) → P x b → b ≡ leb x d) →
+    MatchOption o (r ≡ None) (λ x. (b : Bool) × P x b × (r ≡ then_some b x)) → r ≡ kept_within d o
+filtered None r d means h = h
+filtered (Some x) r d means h = h.2 ∙ ap (λ b. then_some b x) (means x h.0 h.1) ∙ by (leb x d)
+  where
+    by : (b : Bool) → then_some b x ≡ cond b (Some x) None
+    by true = refl
+    by false = refl

@@ -30,10 +30,10 @@ impl<R> Plan<R> {
         if steps == 0 || steps > 16 {
             return Err(Refusal::StepCount);
         }
-        if self.table.entry_count >= 16 {
+        if self.table.entries.is_full() {
             return Err(Refusal::ChainsFull);
         }
-        if self.table.row_count + steps > 64 {
+        if self.table.rows.len() + steps > 64 {
             return Err(Refusal::StepsFull);
         }
         if self.find(id).is_some() {

@@ -16,11 +16,10 @@ impl<R: NodeRule> Plan<R> {
         ensures run { Keeps (R.answer self.now.rule) (contents self.now.table) (ask_call id step) (answer_of (λ timing. Told timing) result) (contents self.now.table) }
     {
         let row = self.locate(id, step)?;
-        if self.table.standing.is_none() {
-            return Err(Refusal::NotSolved);
-        }
-        let jitter = self.jitter(row, &self.table.responses);
-        let response = self.table.responses[row];
+        self.table.standing.ok_or(Refusal::NotSolved)?;
+        let responses = self.table.responses.as_slice();
+        let jitter = self.jitter(row, responses);
+        let response = responses[row];
         Ok(Timing { jitter, response })
     }
 }

@@ -1,23 +1,26 @@
 // What a solve leaves in a plan's memory.
-ghost use Rattle.std.specs.Prelude.{◌≡◌, replicate, Some, None};
-ghost use Rattle.plan.specs.Contents.{with_responses};
+ghost use Rattle.std.specs.Prelude.{◌≡◌, ◌≤◌, length, Some};
+ghost use Rattle.plan.specs.Contents.{with_responses, forgotten};
 
 use crate::table::Table;
+use arrayvec::ArrayVec;
 
 impl Table {
     // The responses of an accepted solve.
-    pub(crate) fn keep(&mut self, responses: [u32; 64], rounds: u32)
-        ensures { self.new ≡ with_responses self.old responses (Some rounds) }
+    pub(crate) fn keep(&mut self, responses: ArrayVec<u32, 64>, rounds: u32)
+        ensures { self.new ≡ with_responses self.old responses.items (Some rounds) }
     {
         self.responses = responses;
         self.standing = Some(rounds);
     }
 
-    // Zeros: no solve stands, and the next one starts anew.
+    // A zero for each row: no solve stands, and the next one starts anew.
     pub(crate) fn forget(&mut self)
-        ensures { self.new ≡ with_responses self.old (replicate 64 0) None }
+        requires { length self.old.rows ≤ length self.old.responses.items }
+        ensures { self.new ≡ forgotten self.old }
     {
-        self.responses = [0; 64];
+        self.responses.truncate(self.rows.len());
+        self.responses.as_mut_slice().fill(0);
         self.standing = None;
     }
 }

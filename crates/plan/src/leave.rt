@@ -18,9 +18,7 @@ impl<R: NodeRule> Plan<R> {
         ensures after { contents self.new.table ≡ (if is_ok result then dropped (contents self.old.table) id else contents self.old.table) }
         ensures run { Keeps (R.answer self.old.rule) (contents self.old.table) (drop_call id) (answer_of (λ _. Done) result) (contents self.new.table) }
     {
-        let Some(span) = self.find(id) else {
-            return Err(Refusal::IdUnknown);
-        };
+        let span = self.find(id).ok_or(Refusal::IdUnknown)?;
         self.table.remove(span);
         Ok(())
     }

@@ -15,6 +15,7 @@ mod plan;
 mod recost;
 mod remove;
 mod round;
+mod rows;
 mod solve;
 mod table;
 

@@ -1,6 +1,6 @@
 // The listing: the rounds of the solve that stands, and a line for each row, as bytes.
-ghost use Rattle.std.specs.Prelude.{◌≡◌, ◌<◌};
-ghost use Rattle.plan.specs.Contents.{chains_of, responses_of, contents};
+ghost use Rattle.std.specs.Prelude.{◌≡◌, ◌<◌, length};
+ghost use Rattle.plan.specs.Contents.{chains_of, contents};
 ghost use Rattle.plan.specs.Listing.{row_fields, listing_bytes, listing_answer, listing_after};
 
 use crate::plan::Plan;
@@ -23,7 +23,7 @@ impl<R> Text for Listing<'_, R> {
             fields: &[self.rounds],
         };
         let mut len = heading.len();
-        for row in 0..self.plan.table.row_count {
+        for row in 0..self.plan.table.rows.len() {
             let line = Line {
                 word: b"step",
                 fields: &self.plan.row_line(row),
@@ -39,7 +39,7 @@ impl<R> Text for Listing<'_, R> {
             fields: &[self.rounds],
         };
         let mut end = heading.write(buffer, at);
-        for row in 0..self.plan.table.row_count {
+        for row in 0..self.plan.table.rows.len() {
             let line = Line {
                 word: b"step",
                 fields: &self.plan.row_line(row),
@@ -53,13 +53,14 @@ impl<R> Text for Listing<'_, R> {
 impl<R> Plan<R> {
     // The numbers of a row's line.
     fn row_line(&self, row: usize) -> [u32; 4]
-        requires { row < self.now.table.row_count }
-        ensures { result ≡ row_fields (chains_of self.now.table) (responses_of self.now.table) row }
+        requires { row < length self.now.table.rows }
+        ensures { result ≡ row_fields (chains_of self.now.table) self.now.table.responses.items row }
     {
         let place = self.place(row);
         let step = place.step as u32 + 1;
-        let jitter = self.jitter(row, &self.table.responses);
-        [place.chain.id, step, jitter, self.table.responses[row]]
+        let responses = self.table.responses.as_slice();
+        let jitter = self.jitter(row, responses);
+        [place.chain.id, step, jitter, responses[row]]
     }
 
     // Writes the listing to the front of the buffer and answers how many bytes it has, or 9 or 20. The rest of the buffer stays as it was.

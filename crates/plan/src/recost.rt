@@ -30,16 +30,9 @@ impl<R: NodeRule> Plan<R> {
         if cost == 0 || cost > 1_000_000 {
             return Err(Refusal::CostOutOfRange);
         }
-        let old = self.table.rows[row];
-        let fields = StepFields { cost, ..old.step };
-        let period = old.period;
-        overwrite(
-            &mut self.table.rows[row],
-            Row {
-                period,
-                step: fields,
-            },
-        );
+        let old = self.table.rows.as_slice()[row];
+        let step = StepFields { cost, ..old.step };
+        overwrite(&mut self.table.rows.places[row], Row { step, ..old });
         self.table.forget();
         Ok(())
     }

@@ -7,26 +7,36 @@ ghost use Rattle.plan.specs.Contents.{contents, responses_fit_in, outcome_of};
 
 use crate::plan::Plan;
 use crate::table::Settled;
+use arrayvec::ArrayVec;
 use law::Refusal;
 use rules::NodeRule;
 
 impl<R: NodeRule> Plan<R> {
+    // The responses that a solve starts from.
+    fn start(&self) -> ArrayVec<u32, 64>
+        ensures { result.items ≡ self.now.table.responses.items }
+    {
+        match ArrayVec::try_from(self.table.responses.as_slice()) {
+            Ok(start) => start,
+            Err(_) => unreachable(),
+        }
+    }
+
     // What a solve comes to.
     fn settle(&self) -> Settled
-        ensures value { outcome_of self.now.table result ≡ solving (R.answer self.now.rule) (contents self.now.table) }
-        ensures small { IfSome result.responses (λ xs. responses_fit_in self.now.table xs ≡ true) }
+        ensures value { outcome_of result ≡ solving (R.answer self.now.rule) (contents self.now.table) }
+        ensures small { IfSome result.responses (λ xs. responses_fit_in self.now.table xs.items ≡ true) }
     {
         let most = self.most_rounds();
-        let mut responses = self.table.responses;
-        for made in 0..most {
-            let rounds = made + 1;
-            let Some(next) = self.round(&responses) else {
+        let mut responses = self.start();
+        for rounds in 1..=most {
+            let Some(next) = self.round(responses.as_slice()) else {
                 return Settled {
                     rounds,
                     responses: None,
                 };
             };
-            if self.same(&responses, &next) {
+            if responses == next {
                 return Settled {
                     rounds,
                     responses: Some(next),

@@ -1,5 +1,7 @@
-// The memory of a plan: 16 chains and 64 steps, as plain numbers.
-use records::{ChainFields, Row};
+// The memory of a plan: up to 16 chains and 64 steps, as plain numbers.
+use crate::rows::Rows;
+use arrayvec::ArrayVec;
+use records::{ChainFields, EndToEndDeadline};
 
 // A chain that is held, with the number of its steps.
 #[derive(Clone, Copy)]
@@ -8,15 +10,28 @@ pub(crate) struct Entry {
     pub(crate) steps: usize,
 }
 
+// What the unused places of a list of entries hold.
+impl Default for Entry {
+    fn default() -> Entry {
+        Entry {
+            fields: ChainFields {
+                id: 0,
+                period: 0,
+                deadline: EndToEndDeadline { ticks: 0 },
+                arrival_jitter: 0,
+            },
+            steps: 0,
+        }
+    }
+}
+
 // Rows stand in the order of the chains, a chain's steps in their own order.
-#[derive(Clone, Copy)]
+#[derive(Drop)]
 pub(crate) struct Table {
-    pub(crate) entries: [Entry; 16],
-    pub(crate) entry_count: usize,
-    pub(crate) rows: [Row; 64],
-    pub(crate) row_count: usize,
-    // where the next solve starts: the kept responses, and 0 for every other row
-    pub(crate) responses: [u32; 64],
+    pub(crate) entries: ArrayVec<Entry, 16>,
+    pub(crate) rows: Rows,
+    // where the next solve starts, for each row: the kept response, or 0
+    pub(crate) responses: ArrayVec<u32, 64>,
     // the rounds of the accepted solve that stands, if one does
     pub(crate) standing: Option<u32>,
 }
@@ -37,8 +52,8 @@ pub(crate) struct Place {
 }
 
 // What a solve comes to: the rounds made, and the responses that they settled in, if they did.
-#[derive(Clone, Copy)]
+#[derive(Drop)]
 pub(crate) struct Settled {
     pub(crate) rounds: u32,
-    pub(crate) responses: Option<[u32; 64]>,
+    pub(crate) responses: Option<ArrayVec<u32, 64>>,
 }

@@ -2,7 +2,7 @@ use Rattle.std.proofs.Common.{◌≡◌, length, codes, ap, arith}
 use Rattle.writing.specs.Writing.{line_bytes}
 use Rattle.plan.specs.Contents.{contents}
 use Rattle.plan.proofs.Listed.{so_far, so_far_none, length_more, listing_is}
-use Rattle.plan.proofs.Memory.{Room, length_rows_held}
+use Rattle.plan.proofs.Memory.{rows_are}
 use Rattle.plan.proofs.listing.ListingText.len.Goals as goal
 
 pub loop-row-init : goal.loop-row-init
@@ -19,8 +19,7 @@ loop-row-preserved g c =
 pub returns : goal.returns
 returns g c =
     let p = c.args.self.now.plan.now in
-    let room : Room p.table = record { rows = p.rows_room; few = p.few_rows; counted = p.rows_counted } in
-    let end : c.loop-row.row ≡ p.table.row_count = omega arith in
+    let end : c.loop-row.row ≡ length p.table.rows = omega arith in
     let last = ap (λ n. length (so_far (contents p.table) c.args.self.now.rounds n)) end in
-    let whole = ap length (listing_is (contents p.table) c.args.self.now.rounds p.table.row_count (length_rows_held room)) in
+    let whole = ap length (listing_is (contents p.table) c.args.self.now.rounds (length p.table.rows) (ap length (rows_are p.table.entries.items p.table.rows p.rows_counted))) in
     omega (arith, c.loop-row.invariant)

@@ -1,40 +1,28 @@
-use Rattle.std.proofs.Common.{◌≤◌, is_some, sym, ap, ◌∙◌, arith, length-take-le}
-use Rattle.plan.specs.Contents.{entries_of, table_rows, chains_of}
-use Rattle.plan.proofs.Memory.{Room, length_chains, length_rows_held}
-use Rattle.plan.proofs.Adding.{some_span, steps_full, id_held, room_done}
+use Rattle.std.proofs.Common.{length, sym, arith}
+use Rattle.std.proofs.lemmas.Bool.{eqb-true, eqb-false}
+use Rattle.plan.proofs.Adding.{chains_full, steps_full, id_held, room_done}
 use Rattle.plan.proofs.plan.Plan.check_room.Goals as goal
 
-pub returns-then-self-steps-gt64 : goal.returns-then-self-steps-gt64
-returns-then-self-steps-gt64 g c =
+pub returns-then-is_full : goal.returns-then-is_full
+returns-then-is_full g c =
     let p = c.args.self.now in
-    let t = p.table in
-    let room : Room t = record { rows = p.rows_room; few = p.few_rows; counted = p.rows_counted } in
-    let rows = length_rows_held room in
-    let chains = length_chains (entries_of t) (table_rows t) in
-    let entries = length-take-le t.entry_count t.entries (omega arith) in
-    let low : 1 ≤ c.args.steps = omega (arith, c.if-steps-eq0.false) in
-    steps_full (chains_of t) c.args.id c.args.steps low c.if-steps-gt16.false (omega arith) (omega arith)
+    let full = eqb-true (length p.table.entries.items) 16 (sym c.if-is_full.ensures.value) in
+    chains_full p.table p.rows_counted c.args.id c.args.steps c.if-steps-eq0.false c.if-steps-gt16.false (omega arith)
+
+pub returns-then-len-steps-gt64 : goal.returns-then-len-steps-gt64
+returns-then-len-steps-gt64 g c =
+    let p = c.args.self.now in
+    let room = eqb-false (length p.table.entries.items) 16 (sym c.if-is_full.ensures.value) in
+    steps_full p.table p.rows_counted c.args.id c.args.steps c.if-steps-eq0.false c.if-steps-gt16.false (omega (arith, room, c.if-is_full.ensures.fits)) (omega (arith, c.len.ensures.value))
 
 pub returns-then-is_some : goal.returns-then-is_some
 returns-then-is_some g c =
     let p = c.args.self.now in
-    let t = p.table in
-    let room : Room t = record { rows = p.rows_room; few = p.few_rows; counted = p.rows_counted } in
-    let rows = length_rows_held room in
-    let chains = length_chains (entries_of t) (table_rows t) in
-    let entries = length-take-le t.entry_count t.entries (omega arith) in
-    let low : 1 ≤ c.args.steps = omega (arith, c.if-steps-eq0.false) in
-    let held = sym (some_span (chains_of t) c.args.id) ∙ ap is_some (sym c.find.ensures) ∙ sym c.if-is_some.ensures in
-    id_held (chains_of t) c.args.id c.args.steps low c.if-steps-gt16.false (omega arith) (omega arith) held
+    let room = eqb-false (length p.table.entries.items) 16 (sym c.if-is_full.ensures.value) in
+    id_held p.table p.rows_counted c.args.id c.args.steps c.if-steps-eq0.false c.if-steps-gt16.false (omega (arith, room, c.if-is_full.ensures.fits)) (omega (arith, c.len.ensures.value)) _ c.find.ensures (sym c.if-is_some.ensures)
 
 pub returns : goal.returns
 returns g c =
     let p = c.args.self.now in
-    let t = p.table in
-    let room : Room t = record { rows = p.rows_room; few = p.few_rows; counted = p.rows_counted } in
-    let rows = length_rows_held room in
-    let chains = length_chains (entries_of t) (table_rows t) in
-    let entries = length-take-le t.entry_count t.entries (omega arith) in
-    let low : 1 ≤ c.args.steps = omega (arith, c.if-steps-eq0.false) in
-    let held = sym (some_span (chains_of t) c.args.id) ∙ ap is_some (sym c.find.ensures) ∙ sym c.if-is_some.ensures in
-    room_done (chains_of t) c.args.id c.args.steps low c.if-steps-gt16.false (omega arith) (omega arith) held
+    let room = eqb-false (length p.table.entries.items) 16 (sym c.if-is_full.ensures.value) in
+    room_done p.table p.rows_counted c.args.id c.args.steps c.if-steps-eq0.false c.if-steps-gt16.false (omega (arith, room, c.if-is_full.ensures.fits)) (omega (arith, c.len.ensures.value)) _ c.find.ensures (sym c.if-is_some.ensures)

@@ -1,6 +1,11 @@
-use Rattle.std.proofs.Common.{refl}
+use Rattle.std.proofs.Common.{[], None, subst, sym}
+use Rattle.law.specs.State.{Leads}
 use Rattle.law.proofs.Steps.{new_leads}
+use Rattle.plan.specs.Contents.{chains_from}
 use Rattle.plan.proofs.plan.Plan.open.Goals as goal
 
-pub returns : goal.returns
-returns g c = record { rule = refl; after = refl; run = new_leads _ }
+pub returns-clause-run : goal.returns-clause-run
+returns-clause-run g c =
+    let answer = g.R.NodeRule.answer c.args.rule in
+    subst (λ es. Leads answer [] (record { chains = chains_from es c.new-2.result; start = c.new-3.result.items; standing = None })) (sym c.new.ensures)
+    (subst (λ xs. Leads answer [] (record { chains = []; start = xs; standing = None })) (sym c.new-3.ensures) (new_leads answer))

@@ -1,5 +1,10 @@
-use Rattle.plan.proofs.Adding.{Writing}
+use Rattle.std.proofs.Common.{◌≡◌, ◌+◌, ◌≤◌, length, drop}
+use Rattle.plan.specs.Contents.{with_rows}
 use Rattle.plan.proofs.table.Table.append_rows.Given as goal
 
-abbrev pub invariant-loop-k : goal.invariant-loop-k
-invariant-loop-k l = Writing l.initial.self l.period l.steps l.k l.self
+abbrev pub invariant-loop-step : goal.invariant-loop-step
+invariant-loop-step l =
+    let left = drop l.step-index l.steps in
+    (with_rows l.self l.period left ≡ with_rows l.initial.self l.period l.steps)
+    × (length l.self.rows + length left ≤ 64)
+    × (length l.self.responses.items + length left ≤ 64)
