@@ -1,5 +1,5 @@
 -- The lines of a listing, one behind the other.
-use Rattle.std.proofs.Common.{◌≡◌, ℕ, zero, suc, ◌+◌, ◌-◌, ◌≤◌, List, [], ◌∷◌, ◌++◌, length, get_or, Some, codes, refl, ap, ◌∙◌, add-one, arith, length-append}
+use Rattle.std.proofs.Common.{◌≡◌, ℕ, zero, suc, ◌+◌, ◌-◌, ◌<◌, ◌≤◌, List, [], ◌∷◌, ◌++◌, length, get_or, Some, codes, refl, sym, ap, ◌∙◌, add-one, arith, length-append, append_assoc, append-nil}
 use Rattle.writing.specs.Writing.{line_bytes}
 use Rattle.law.specs.Assignments.{Held, rows_of, jitters_of}
 use Rattle.law.specs.State.{Contents}
@@ -12,37 +12,53 @@ pub fields_are : (cs : List Held) (xs : List ℕ) (k : ℕ) (p : Place) (jitter 
 fields_are cs xs k p jitter response e j r = rw (j, r) (ap (λ o. fields_at o (get_or (jitters_of cs xs) k 0) (get_or xs k 0)) e)
 
 module _ (s : Contents) where
-  pub rows_none : rows_bytes s 0 ≡ []
+  rows_none : rows_bytes s 0 ≡ []
   unfolding rows_bytes
   rows_none = refl
 
-  pub rows_more : (n : ℕ) → rows_bytes s (n + 1) ≡ rows_bytes s n ++ row_line s.chains s.start n
+  rows_more : (n : ℕ) → rows_bytes s (n + 1) ≡ rows_bytes s n ++ row_line s.chains s.start n
   unfolding rows_bytes
   rows_more n = rw (add-one n)
 
-  pub length_rows_more : (n : ℕ) → length (rows_bytes s (n + 1)) ≡ length (rows_bytes s n) + length (row_line s.chains s.start n)
-  length_rows_more n = ap length (rows_more n) ∙ length-append (rows_bytes s n) (row_line s.chains s.start n)
+  module _ (rounds : ℕ) where
+    -- the heading, and the lines of the first rows
+    abbrev pub so_far : ℕ → List ℕ
+    so_far n = line_bytes (codes "rounds") (rounds ∷ []) ++ rows_bytes s n
 
-  rows_rise : (m n : ℕ) → length (rows_bytes s n) ≤ length (rows_bytes s (n + m))
-  rows_rise zero n = let e : n + 0 ≡ n = omega arith in let f = ap (λ k. length (rows_bytes s k)) e in omega arith
-  rows_rise (suc m) n =
-      let e : n + suc m ≡ (n + m) + 1 = omega arith in
-      let f = ap (λ k. length (rows_bytes s k)) e in
-      let r = rows_rise m n in
-      let l = length_rows_more (n + m) in
-      omega arith
+    pub so_far_none : so_far 0 ≡ line_bytes (codes "rounds") (rounds ∷ [])
+    so_far_none = rw rows_none (append-nil (line_bytes (codes "rounds") (rounds ∷ [])))
 
-  -- the first rows take no more than all
-  pub rows_part : (n all : ℕ) → n ≤ all → length (rows_bytes s n) ≤ length (rows_bytes s all)
-  rows_part n all h =
-      let e : n + (all - n) ≡ all = omega arith in
-      let f = ap (λ k. length (rows_bytes s k)) e in
-      let r = rows_rise (all - n) n in
-      omega arith
+    pub so_far_more : (n : ℕ) → so_far (n + 1) ≡ so_far n ++ row_line s.chains s.start n
+    so_far_more n = ap (λ (rows : List ℕ). line_bytes (codes "rounds") (rounds ∷ []) ++ rows) (rows_more n) ∙ sym (append_assoc (line_bytes (codes "rounds") (rounds ∷ [])) (rows_bytes s n) (row_line s.chains s.start n))
 
-  pub listing_is : (rounds n : ℕ) → length (rows_of s.chains) ≡ n → listing_bytes s rounds ≡ line_bytes (codes "rounds") (rounds ∷ []) ++ rows_bytes s n
-  unfolding listing_bytes
-  listing_is rounds n e = rw e
+    pub length_more : (n : ℕ) → length (so_far (n + 1)) ≡ length (so_far n) + length (row_line s.chains s.start n)
+    length_more n = ap length (so_far_more n) ∙ length-append (so_far n) (row_line s.chains s.start n)
 
-  pub length_listing : (rounds n : ℕ) → length (rows_of s.chains) ≡ n → length (listing_bytes s rounds) ≡ length (line_bytes (codes "rounds") (rounds ∷ [])) + length (rows_bytes s n)
-  length_listing rounds n e = ap length (listing_is rounds n e) ∙ length-append (line_bytes (codes "rounds") (rounds ∷ [])) (rows_bytes s n)
+    so_far_rises : (m n : ℕ) → length (so_far n) ≤ length (so_far (n + m))
+    so_far_rises zero n = let e : n + 0 ≡ n = omega arith in let f = ap (λ k. length (so_far k)) e in omega arith
+    so_far_rises (suc m) n =
+        let e : n + suc m ≡ (n + m) + 1 = omega arith in
+        let f = ap (λ k. length (so_far k)) e in
+        let r = so_far_rises m n in
+        let l = length_more (n + m) in
+        omega arith
+
+    -- the first rows take no more than all
+    part : (n all : ℕ) → n ≤ all → length (so_far n) ≤ length (so_far all)
+    part n all h =
+        let e : n + (all - n) ≡ all = omega arith in
+        let f = ap (λ k. length (so_far k)) e in
+        let r = so_far_rises (all - n) n in
+        omega arith
+
+    module _ (n : ℕ) (all : length (rows_of s.chains) ≡ n) where
+      pub listing_is : listing_bytes s rounds ≡ so_far n
+      unfolding listing_bytes
+      listing_is = rw all
+
+      -- the room that each write of the listing needs
+      pub heading_room : length (line_bytes (codes "rounds") (rounds ∷ [])) ≤ length (listing_bytes s rounds)
+      heading_room = let none = ap length so_far_none in let whole = ap length listing_is in let p = part 0 n (omega arith) in omega arith
+
+      pub row_room : (k : ℕ) → k < n → length (so_far k) + length (row_line s.chains s.start k) ≤ length (listing_bytes s rounds)
+      row_room k inside = let more = length_more k in let whole = ap length listing_is in let p = part (k + 1) n (omega arith) in omega arith

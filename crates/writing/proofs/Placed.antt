@@ -1,6 +1,6 @@
 -- What a buffer holds after writes: one write, and one behind the other.
-use Rattle.std.proofs.Common.{◌≡◌, ℕ, ◌+◌, ◌<◌, ◌≤◌, List, [], ◌∷◌, ◌++◌, length, set, refl, ap, ◌∙◌, add-zero, add-one, arith, length-append, append_assoc}
-use Rattle.std.proofs.lemmas.List.{take-append-drop, set_split}
+use Rattle.std.proofs.Common.{◌≡◌, ℕ, ◌+◌, ◌<◌, ◌≤◌, List, [], ◌∷◌, ◌++◌, length, set, refl, ap, ◌∙◌, add-one, arith, length-append, append_assoc}
+use Rattle.std.proofs.lemmas.List.{set_split}
 use Rattle.std.proofs.lemmas.List.Edits.{paste_all, length-paste, paste-paste}
 use Rattle.writing.specs.Writing.{put_at}
 
@@ -27,7 +27,3 @@ put_behind b at xs x ys room =
     let long = length-append xs (x ∷ []) in
     let end : at + length xs + 1 ≡ at + length (xs ++ x ∷ []) = omega arith in
     rw (set_behind b at xs x room, end) (put_put b at (xs ++ x ∷ []) ys (omega arith)) ∙ ap (put_at b at) (append_assoc xs (x ∷ []) ys)
-
--- no bytes leave the buffer as it is
-pub put_none : (b : List ℕ) (at : ℕ) → put_at b at [] ≡ b
-put_none b at = rw (add-zero at) (take-append-drop at b)
