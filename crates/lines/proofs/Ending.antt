@@ -3,7 +3,7 @@ use Rattle.std.proofs.Common.{◌≡◌, ℕ, suc, ◌-◌, ◌<◌, ◌≤◌, 
 use Rattle.std.specs.List.{onto_first, prefix_len}
 use Rattle.std.proofs.lemmas.List.{nil_from_length}
 use Rattle.std.proofs.lemmas.List.Splits.{length-slice_split}
-use Rattle.std.proofs.lemmas.Bool.{eqb-true, le-leb, lt-leb, cond-true, cond-false}
+use Rattle.std.proofs.lemmas.Bool.{eqb-true, le-leb, cond-true, cond-false}
 use Rattle.lines.specs.declared.faults.Fault.TheVariants.{TextTooLong, NoLineFeed}
 use Rattle.lines.specs.declared.faults.TableFault.{TableFault}
 use Rattle.lines.specs.Faults.{fault_at, on_line}
@@ -55,9 +55,6 @@ unended_count (b ∷ c ∷ bs) e = by (eqb b 10) (lines_of (c ∷ bs)) (parted 1
     by false ls ps k some h = onto_first_length b ls (omega arith) ∙ h ∙ sym (onto_first_length b ps (omega arith))
 
 -- ## The tests of a whole text
-
-pub too_long : (bs : List ℕ) → 32768 < length bs → Err (on_line 0 (fault_at 0 TextTooLong)) ≡ text_answer bs
-too_long bs h = sym (cond-false _ _ _ (lt-leb (length bs) 32768 h))
 
 pub not_ended : (bs : List ℕ) (n : ℕ) → length bs ≤ 32768 → ended bs ≡ false → n ≡ length (parted 10 bs) → Err (on_line n (fault_at 0 NoLineFeed)) ≡ text_answer bs
 not_ended bs n h e k =

@@ -1,38 +1,56 @@
--- Parting at commas and joining by commas are inverse to each other.
-use Rattle.std.proofs.Common.{◌≡◌, ℕ, true, false, cond, eqb, List, [], ◌∷◌, ◌++◌, refl, ap, ◌∙◌, arith}
-use Rattle.std.specs.Str.{all_ascii_digits}
+-- What is written of a record holds no separator, and parting at commas undoes joining by commas.
+use Rattle.std.proofs.Common.{◌≡◌, ℕ, ◌<◌, true, false, eqb, leb, List, [], ◌∷◌, decimal, refl, ap, ◌∙◌, arith}
 use Rattle.std.specs.Char.{is_ascii_digit}
+use Rattle.std.specs.List.{AllByRecursion}
+use Rattle.std.specs.Str.{all_ascii_digits}
 use Rattle.std.proofs.lemmas.Bool.{ne_eqb, and_parts, leb-true}
-use Rattle.std.specs.List.{onto_first}
-use Rattle.lines.specs.Fields.{fields_of}
-use Rattle.lines.specs.Writing.{by_commas}
+use Rattle.std.proofs.lemmas.Fmt.{digits_decimal}
+use Rattle.std.proofs.lemmas.List.Elements.{All-from_recursion}
+use Rattle.std.proofs.lemmas.List.Splits.{slice_split_none, slice_split_at}
+use Rattle.mixed.specs.declared.letters.Letter.{Letter}
+use Rattle.mixed.specs.declared.letters.Letter.TheVariants.{E, P}
+use Rattle.lines.specs.declared.line.Line.{Line}
+use Rattle.lines.specs.declared.line.Line.TheVariants.{Node, Chain, Step}
+use Rattle.lines.specs.Fields.{parted}
+use Rattle.lines.specs.Writing.{letter_bytes, written_fields, by_commas, numbers_of, Small}
+use Rattle.lines.proofs.Numerals.{own}
 
--- no byte is a comma
-abbrev pub Clean : List ℕ → Type 0
-Clean [] = Unit {0}
-Clean (b ∷ bs) = (eqb b 44 ≡ false) × Clean bs
+-- ## Fields as they are written
 
-abbrev pub AllClean : List (List ℕ) → Type 0
-AllClean [] = Unit {0}
-AllClean (f ∷ fs) = Clean f × AllClean fs
+-- digits and letters alone: every byte is at least that of the digit 0, and separators lie below
+abbrev pub Plain : List ℕ → Type 0
+Plain bs = AllByRecursion (λ b. leb 48 b ≡ true) bs
 
-pub digits_clean : (bs : List ℕ) → all_ascii_digits bs ≡ true → Clean bs
-digits_clean [] h = tt
-digits_clean (b ∷ bs) h =
-    let p = and_parts (is_ascii_digit b) (all_ascii_digits bs) h in
-    (ne_eqb b 44 (λ e. omega (arith, leb-true 48 b (and_parts _ _ p.0).0)), digits_clean bs p.1)
+digits_plain : (bs : List ℕ) → all_ascii_digits bs ≡ true → Plain bs
+digits_plain [] h = tt
+digits_plain (b ∷ bs) h = let p = and_parts (is_ascii_digit b) (all_ascii_digits bs) h in ((and_parts _ _ p.0).0, digits_plain bs p.1)
 
-step_over : (b : ℕ) (bs : List ℕ) (f : List ℕ) (fs : List (List ℕ)) → eqb b 44 ≡ false → fields_of bs ≡ f ∷ fs → fields_of (b ∷ bs) ≡ (b ∷ f) ∷ fs
-step_over b bs f fs e h = ap (λ t. cond t ([] ∷ fields_of bs) (onto_first b (fields_of bs))) e ∙ ap (onto_first b) h
+letter_plain : (l : Letter) → Plain (letter_bytes l)
+letter_plain E = (refl, tt)
+letter_plain P = (refl, tt)
 
-alone : (f : List ℕ) → Clean f → fields_of f ≡ f ∷ []
-alone [] h = refl
-alone (b ∷ f) h = step_over b f f [] h.0 (alone f h.1)
+numbers_plain : (ns : List ℕ) → Small ns → AllByRecursion (λ n. Plain (decimal n)) ns
+numbers_plain [] s = tt
+numbers_plain (n ∷ ns) s = (digits_plain (decimal n) (digits_decimal own n (omega (arith, s.0))), numbers_plain ns s.1)
 
-before_comma : (f rest : List ℕ) → Clean f → fields_of (f ++ 44 ∷ rest) ≡ f ∷ fields_of rest
-before_comma [] rest h = refl
-before_comma (b ∷ f) rest h = step_over b (f ++ 44 ∷ rest) f (fields_of rest) h.0 (before_comma f rest h.1)
+words_plain : (l : Line) → AllByRecursion (λ n. Plain (decimal n)) (numbers_of l) → AllByRecursion Plain (written_fields l)
+words_plain (Node x) p = ((refl, (refl, (refl, (refl, tt)))), (p.0, (letter_plain x.letter, tt)))
+words_plain (Chain x) p = ((refl, (refl, (refl, (refl, (refl, tt))))), p)
+words_plain (Step x) p = ((refl, (refl, (refl, (refl, tt)))), p)
 
-pub fields_joined : (f : List ℕ) (fs : List (List ℕ)) → AllClean (f ∷ fs) → fields_of (by_commas (f ∷ fs)) ≡ f ∷ fs
-fields_joined f [] h = alone f h.0
-fields_joined f (g ∷ fs) h = before_comma f (by_commas (g ∷ fs)) h.0 ∙ ap (λ gs. f ∷ gs) (fields_joined g fs h.1)
+pub fields_plain : (l : Line) → Small (numbers_of l) → AllByRecursion Plain (written_fields l)
+fields_plain l s = words_plain l (numbers_plain (numbers_of l) s)
+
+-- ## Parting what is joined
+
+module _ (sep : ℕ) (low : sep < 48) where
+  -- no byte is the separator
+  pub without : (bs : List ℕ) → Plain bs → AllByRecursion (λ b. eqb b sep ≡ false) bs
+  without [] p = tt
+  without (b ∷ bs) p = (ne_eqb b sep (λ e. omega (arith, leb-true 48 b p.0)), without bs p.1)
+
+pub fields_joined : (f : List ℕ) (fs : List (List ℕ)) → AllByRecursion Plain (f ∷ fs) → parted 44 (by_commas (f ∷ fs)) ≡ f ∷ fs
+fields_joined f [] p = slice_split_none (λ b. eqb b 44) f (All-from_recursion _ f (without 44 (omega arith) f p.0))
+fields_joined f (g ∷ fs) p =
+    slice_split_at (λ b. eqb b 44) f 44 (by_commas (g ∷ fs)) (All-from_recursion _ f (without 44 (omega arith) f p.0)) refl
+    ∙ ap (λ gs. f ∷ gs) (fields_joined g fs p.1)

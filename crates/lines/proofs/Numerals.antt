@@ -4,12 +4,12 @@ use native.Mathlib.Nat.{pow-le-pow_right}
 use Rattle.std.specs.Str.{all_ascii_digits}
 use Rattle.std.specs.Char.{is_ascii_digit}
 use Rattle.std.proofs.lemmas.List.{at_drop_more}
-use Rattle.std.proofs.lemmas.Bool.{le-leb, lt-leb, and_left, and_right, and_from, and_parts, leb-true, cond-true, cond-false, eq-eqb, ne_eqb, cases_eq, or_left, or_right, not_from_false, or_from, not_from_true}
+use Rattle.std.proofs.lemmas.Bool.{le-leb, and_from, and_parts, leb-true, cond-true, eq-eqb, ne_eqb, cases_eq, or_left, or_right, not_from_false}
 use Rattle.std.proofs.lemmas.Bool.Decides.{nat_tests}
 use Rattle.std.proofs.lemmas.Str.Parse.{IsNumeralModel, numerals_by_fold, digits_value_short}
 use Rattle.std.proofs.lemmas.Fmt.{digits_decimal, digits_value-decimal, decimal-digits_value, length-decimal-le, decimal_nonempty, first_decimal, decimal_digit}
 use Rattle.lines.specs.declared.faults.Fault.{Fault}
-use Rattle.lines.specs.declared.faults.Fault.TheVariants.{EmptyField, NotANumber}
+use Rattle.lines.specs.declared.faults.Fault.TheVariants.{NotANumber}
 use Rattle.lines.specs.Numbers.{read_on, digits_answer, number_answer, InverseOfWriting}
 
 -- ## A turn of the loop over the digits
@@ -36,30 +36,6 @@ le6 i k = omega arith
 
 pub still_small : (n i : ℕ) → n < 10 ^ i → i < 7 → n < 1000000
 still_small n i h k = omega (arith, pow-le-pow_right {n = 10} (omega arith) (le6 i k))
-
--- ## The tests of a field
-
-pub empty : (bs : List ℕ) → length bs ≡ 0 → Err EmptyField ≡ number_answer bs
-empty [] h = refl
-empty (c ∷ cs) h = absurd (omega arith)
-
-pub too_long : (bs : List ℕ) → 7 < length bs → Err NotANumber ≡ number_answer bs
-too_long [] h = absurd (omega arith)
-too_long (c ∷ cs) h = sym (cond-false _ _ _ (and_left _ _ (lt-leb (length cs) 6 (omega arith))))
-
-pub leading_zero : (bs : List ℕ) → 1 < length bs → get_or bs 0 0 ≡ 48 → Err NotANumber ≡ number_answer bs
-leading_zero [] h e = absurd (omega arith)
-leading_zero (c ∷ cs) h e =
-    sym (cond-false _ _ _ (and_right (leb (length cs) 6) (not (eqb c 48) || eqb (length cs) 0) (or_from _ _ (not_from_true _ (eq-eqb c 48 e)) (ne_eqb (length cs) 0 (λ z. omega arith)))))
-
-pub plain : (bs : List ℕ) → 0 < length bs → length bs ≤ 7 → (1 < length bs → get_or bs 0 0 ≡ 48 → ⊥) → digits_answer 0 bs ≡ number_answer bs
-plain [] some short first = absurd (omega arith)
-plain (c ∷ cs) some short first =
-    sym (cond-true _ _ _ (and_from _ _ (le-leb (length cs) 6 (omega arith)) (allowed (cases_eq (length cs) 0))))
-  where
-    allowed : (length cs ≡ 0) ⊎ (length cs ≡ 0 → ⊥) → (not (eqb c 48) || eqb (length cs) 0) ≡ true
-    allowed (inl z) = or_right _ _ (eq-eqb (length cs) 0 z)
-    allowed (inr z) = or_left _ _ (not_from_false _ (ne_eqb c 48 (first (omega arith))))
 
 -- ## The inverse of writing
 
@@ -90,6 +66,15 @@ taken (c ∷ cs) n e =
         }
     by true false t d r = let z : ◌≡◌ {A = ℕ} 0 1 = cc in absurd (omega arith)
     by false d t d' r = let z : ◌≡◌ {A = ℕ} 0 1 = cc in absurd (omega arith)
+
+plain : (bs : List ℕ) → 0 < length bs → length bs ≤ 7 → (1 < length bs → get_or bs 0 0 ≡ 48 → ⊥) → digits_answer 0 bs ≡ number_answer bs
+plain [] some short first = absurd (omega arith)
+plain (c ∷ cs) some short first =
+    sym (cond-true _ _ _ (and_from _ _ (le-leb (length cs) 6 (omega arith)) (allowed (cases_eq (length cs) 0))))
+  where
+    allowed : (length cs ≡ 0) ⊎ (length cs ≡ 0 → ⊥) → (not (eqb c 48) || eqb (length cs) 0) ≡ true
+    allowed (inl z) = or_right _ _ (eq-eqb (length cs) 0 z)
+    allowed (inr z) = or_left _ _ (not_from_false _ (ne_eqb c 48 (first (omega arith))))
 
 decimal_first : (n : ℕ) → n < 10000000 → get_or (decimal n) 0 0 ≡ 48 → length (decimal n) ≡ 1
 decimal_first n small e = by (cases_eq n 0)

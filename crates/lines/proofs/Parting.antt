@@ -1,5 +1,5 @@
 -- Parting a line into fields, field by field.
-use Rattle.std.proofs.Common.{◌≡◌, ℕ, zero, suc, ◌+◌, ◌-◌, ◌≤◌, Bool, true, false, cond, not, eqb, ltb, List, [], ◌∷◌, length, get_or, take, drop, Some, None, sym, refl, ap, ◌∙◌, add-one, arith}
+use Rattle.std.proofs.Common.{◌≡◌, ℕ, zero, suc, ◌+◌, ◌-◌, ◌≤◌, Bool, true, false, cond, not, eqb, ltb, List, [], ◌∷◌, length, get_or, take, drop, Some, None, sym, refl, ap, ◌∙◌, arith}
 use Rattle.std.specs.List.{position, position_or_len, prefix_len, onto_first}
 use Rattle.std.proofs.lemmas.Bool.{ltb-false}
 use Rattle.lines.specs.Fields.{fields_of, at_place, first_of, rest_of, skipped}
@@ -63,7 +63,3 @@ field_after k bs = let e : k ≡ k + 1 - 1 = omega arith in sym (from k bs) ∙ 
     from : (k : ℕ) (bs : List ℕ) → get_or (fields_of bs) k [] ≡ first_of 44 (skipped k bs)
     from zero bs = first_field_is bs
     from (suc k) bs = later_field bs k ∙ from k (rest_of 44 bs) ∙ ap (first_of 44) (sym (skipped_rest k bs))
-
--- what stands after one field more
-pub skipped_more : (k : ℕ) (bs : List ℕ) → rest_of 44 (skipped k bs) ≡ skipped (k + 1) bs
-skipped_more k bs = let e : suc k ≡ k + 1 = sym (add-one k) in ap (λ j. skipped j bs) e

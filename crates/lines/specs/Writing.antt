@@ -1,6 +1,6 @@
 -- How a record is written as a line, and that reading is the inverse of it. Assumes nothing.
 use Rattle.std.specs.Prelude.{◌≡◌, ℕ, ◌<◌, List, [], ◌∷◌, Ok, codes, decimal, Result}
-use Rattle.std.specs.List.{join_with_byte}
+use Rattle.std.specs.List.{AllByRecursion, join_with_byte}
 use Rattle.mixed.specs.declared.letters.Letter.{Letter}
 use Rattle.mixed.specs.declared.letters.Letter.TheVariants.{E, P}
 use Rattle.lines.specs.declared.faults.LineFault.{LineFault}
@@ -34,8 +34,7 @@ numbers_of (Step x) = x.node ∷ x.cost ∷ x.local.ticks ∷ x.delay ∷ x.bloc
 
 -- each has at most seven digits
 abbrev pub Small : List ℕ → Type 0
-Small [] = Unit {0}
-Small (n ∷ ns) = (n < 10000000) × Small ns
+Small ns = AllByRecursion (λ n. n < 10000000) ns
 
 -- a record is accepted exactly from the bytes that it is written as, if its numbers have at most seven digits
 abbrev pub InverseOfWriting : Result Line LineFault → List ℕ → Type 0

@@ -29,14 +29,14 @@ pub enum Fault {
     Node,
 }
 
-// A fault in one line. Its fields are counted from 1, the kind word first; 0 stands for the whole line.
+// A fault in one line. Its fields are counted from 1, the kind word first; 0 stands for the whole line, as a refusal prints it.
 #[derive(Clone, Copy, PartialEq, Eq, Debug)]
 pub struct LineFault {
     pub fault: Fault,
     pub field: u32,
 }
 
-// A fault in a text. Its lines are counted from 1; 0 stands for the whole text.
+// A fault in a text. Its lines are counted from 1; 0 stands for the whole text, as a refusal prints it.
 #[derive(Clone, Copy, PartialEq, Eq, Debug)]
 pub struct TableFault {
     pub fault: Fault,
@@ -83,7 +83,7 @@ impl Fault {
         LineFault { fault: self, field }
     }
 
-    // The number under which the manuals list the fault.
+    // The number under which the manuals list the fault: their table fixes it, and a refusal prints it.
     pub fn number(&self) -> u32
         ensures { result ≡ number_of self.now }
     {

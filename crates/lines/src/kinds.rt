@@ -42,9 +42,10 @@ impl LineKind for NodeKind {
     ghost reads = { node_of };
 
     fn read(cursor: &mut Cursor) -> Result<NodeLine, LineFault> {
-        let node = cursor.value()?;
-        let letter = cursor.value()?;
-        Ok(NodeLine { node, letter })
+        Ok(NodeLine {
+            node: cursor.value()?,
+            letter: cursor.value()?,
+        })
     }
 }
 
@@ -58,15 +59,13 @@ impl LineKind for ChainKind {
     ghost reads = { chain_of };
 
     fn read(cursor: &mut Cursor) -> Result<ChainFields, LineFault> {
-        let id = cursor.value()?;
-        let period = cursor.value()?;
-        let ticks = cursor.value()?;
-        let arrival_jitter = cursor.value()?;
         Ok(ChainFields {
-            id,
-            period,
-            deadline: EndToEndDeadline { ticks },
-            arrival_jitter,
+            id: cursor.value()?,
+            period: cursor.value()?,
+            deadline: EndToEndDeadline {
+                ticks: cursor.value()?,
+            },
+            arrival_jitter: cursor.value()?,
         })
     }
 }
@@ -81,19 +80,15 @@ impl LineKind for StepKind {
     ghost reads = { step_of };
 
     fn read(cursor: &mut Cursor) -> Result<StepFields, LineFault> {
-        let node = cursor.value()?;
-        let cost = cursor.value()?;
-        let ticks = cursor.value()?;
-        let delay = cursor.value()?;
-        let blocking = cursor.value()?;
-        let priority = cursor.value()?;
         Ok(StepFields {
-            node,
-            cost,
-            local: LocalDeadline { ticks },
-            delay,
-            blocking,
-            priority,
+            node: cursor.value()?,
+            cost: cursor.value()?,
+            local: LocalDeadline {
+                ticks: cursor.value()?,
+            },
+            delay: cursor.value()?,
+            blocking: cursor.value()?,
+            priority: cursor.value()?,
         })
     }
 }

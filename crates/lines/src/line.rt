@@ -11,7 +11,7 @@ pub enum Kind {
 }
 
 // A node's letter; the node is a plain number, in range or not.
-#[derive(Clone, Copy)]
+#[derive(Clone, Copy, PartialEq, Eq, Debug)]
 pub struct NodeLine {
     pub node: u32,
     pub letter: Letter,

@@ -8,7 +8,7 @@ const MOST_DIGITS: usize = 7;
 
 const LEADING_ZERO: u8 = b'0';
 
-// The number that at most seven digits write.
+// The number that at most seven digits write. A loop: no closure of a fold knows how many digits came before, so that the next sum fits.
 fn digits_in(digits: &[u8]) -> Result<u32, Fault>
     requires { length digits.now ≤ 7 }
     ensures { result ≡ digits_answer 0 digits.now }
@@ -28,14 +28,12 @@ pub fn number_in(field: &[u8]) -> Result<u32, Fault>
     ensures value { result ≡ number_answer field.now }
     ensures inverse { InverseOfWriting result field.now }
 {
-    if field.is_empty() {
+    let [first, rest @ ..] = field else {
         return Err(Fault::EmptyField);
+    };
+    if rest.len() < MOST_DIGITS && (*first != LEADING_ZERO || rest.is_empty()) {
+        digits_in(field)
+    } else {
+        Err(Fault::NotANumber)
     }
-    if field.len() > MOST_DIGITS {
-        return Err(Fault::NotANumber);
-    }
-    if field.len() > 1 && field[0] == LEADING_ZERO {
-        return Err(Fault::NotANumber);
-    }
-    digits_in(field)
 }

@@ -2,7 +2,7 @@
 ghost use Rattle.std.specs.Prelude.{◌≡◌, ◌==◌, position};
 ghost use Rattle.lines.specs.Fields.{first_of, rest_of};
 
-// The place of the first separator.
+// The place of the first separator. A function of its own, since callers learn what a chain gave from a contract alone.
 fn first_separator(bytes: &[u8], separator: u8) -> Option<usize>
     ensures { result ≡ position (λ b. b == separator) bytes.now }
 {

@@ -22,18 +22,11 @@ pub fn check_text(text: &[u8]) -> Result<(), TableFault>
     ensures lines { is_ok result ≡ true → ended_lines (lines_of text.now) ≡ text.now }
 {
     if text.len() > LONGEST_TEXT {
-        return Err(TableFault {
-            fault: Fault::TextTooLong,
-            line: 0,
-            field: 0,
-        });
+        return Err(Fault::TextTooLong.at(0).on(0));
     }
     if !is_ended(text) {
-        return Err(TableFault {
-            fault: Fault::NoLineFeed,
-            line: text.split(|byte| *byte == b'\n').count() as u32,
-            field: 0,
-        });
+        let lines = text.split(|byte| *byte == b'\n').count() as u32;
+        return Err(Fault::NoLineFeed.at(0).on(lines));
     }
     Ok(())
 }

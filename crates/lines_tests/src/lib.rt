@@ -3,17 +3,18 @@
 
 #[cfg(test)]
 mod tests {
-    use lines::{Fault, Line, LineFault, TextCursor, check_text, number_in, read_line};
+    use lines::{
+        Fault, Kind, Line, LineFault, TextCursor, check_text, field_count, kind_of, number_in,
+        read_line,
+    };
     use mixed::Letter;
     use records::Chain;
     use std::test::Fail;
 
     // The number of the fault and its field, if the line is refused.
     fn refusal(line: &[u8]) -> Option<(u32, u32)> {
-        match read_line(line) {
-            Ok(_) => None,
-            Err(why) => Some((why.fault.number(), why.field)),
-        }
+        let why = read_line(line).err()?;
+        Some((why.fault.number(), why.field))
     }
 
     // A chain's fields are out of range only after its line is read.
@@ -26,52 +27,55 @@ mod tests {
 
     // The number of the fault and its line, if the text is refused.
     fn text_refusal(text: &[u8]) -> Option<(u32, u32)> {
-        match check_text(text) {
-            Ok(_) => None,
-            Err(why) => Some((why.fault.number(), why.line)),
-        }
+        let why = check_text(text).err()?;
+        Some((why.fault.number(), why.line))
     }
 
     #[test]
     fn node_is_read(rt: HostRuntime) -> Result<(), Fail> {
-        match read_line(b"node,8,P")? {
-            Line::Node(x) => {
-                assert_eq!(rt; x.node, 8);
-                assert_eq!(rt; x.letter, Letter::P);
-                Ok(())
-            }
-            _ => Err(Fail::new("no node")),
-        }
+        let Line::Node(x) = read_line(b"node,8,P")? else {
+            return Err(Fail::new("no node"));
+        };
+        assert_eq!(rt; x.node, 8);
+        assert_eq!(rt; x.letter, Letter::P);
+        Ok(())
     }
 
     #[test]
     fn chain_is_read(rt: HostRuntime) -> Result<(), Fail> {
-        match read_line(b"chain,7,100,9999999,0")? {
-            Line::Chain(x) => {
-                assert_eq!(rt; x.id, 7);
-                assert_eq!(rt; x.period, 100);
-                assert_eq!(rt; x.deadline.ticks, 9_999_999);
-                assert_eq!(rt; x.arrival_jitter, 0);
-                Ok(())
-            }
-            _ => Err(Fail::new("no chain")),
-        }
+        let Line::Chain(x) = read_line(b"chain,7,100,9999999,0")? else {
+            return Err(Fail::new("no chain"));
+        };
+        assert_eq!(rt; x.id, 7);
+        assert_eq!(rt; x.period, 100);
+        assert_eq!(rt; x.deadline.ticks, 9_999_999);
+        assert_eq!(rt; x.arrival_jitter, 0);
+        Ok(())
     }
 
     #[test]
     fn step_is_read(rt: HostRuntime) -> Result<(), Fail> {
-        match read_line(b"step,1,3,8,5,0,255")? {
-            Line::Step(x) => {
-                assert_eq!(rt; x.node, 1);
-                assert_eq!(rt; x.cost, 3);
-                assert_eq!(rt; x.local.ticks, 8);
-                assert_eq!(rt; x.delay, 5);
-                assert_eq!(rt; x.blocking, 0);
-                assert_eq!(rt; x.priority, 255);
-                Ok(())
-            }
-            _ => Err(Fail::new("no step")),
-        }
+        let Line::Step(x) = read_line(b"step,1,3,8,5,0,255")? else {
+            return Err(Fail::new("no step"));
+        };
+        assert_eq!(rt; x.node, 1);
+        assert_eq!(rt; x.cost, 3);
+        assert_eq!(rt; x.local.ticks, 8);
+        assert_eq!(rt; x.delay, 5);
+        assert_eq!(rt; x.blocking, 0);
+        assert_eq!(rt; x.priority, 255);
+        Ok(())
+    }
+
+    #[test]
+    fn kind_and_fields_of_a_line(rt: HostRuntime) {
+        assert_eq!(rt; kind_of(b"node"), Some(Kind::Node));
+        assert_eq!(rt; kind_of(b"chain,1,2,3,x"), Some(Kind::Chain));
+        assert_eq!(rt; kind_of(b"step,"), Some(Kind::Step));
+        assert_eq!(rt; kind_of(b"nodes,1,E"), None);
+        assert_eq!(rt; kind_of(b""), None);
+        assert_eq!(rt; field_count(b""), 1);
+        assert_eq!(rt; field_count(b"step,,"), 3);
     }
 
     #[test]
@@ -154,6 +158,7 @@ mod tests {
         assert_eq!(rt; text.next().ok_or("no line")?.len(), 0);
         assert_eq!(rt; text.number(), 2);
         assert!(rt; text.next().is_none());
+        assert_eq!(rt; TextCursor::new(b"node,1,E\n\n").count(), 2);
         Ok(())
     }
 

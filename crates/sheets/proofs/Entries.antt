@@ -14,7 +14,7 @@ use Rattle.lines.specs.Faults.{on_line}
 use Rattle.reading.specs.Reading.{Panel, Begun, refusal_of, entered, entry, with_chain}
 use Rattle.sheets.specs.Sheets.{Written, Sheet, letters_of, held_of, panel_of, Every, Apart, NodeFits, StepFits, ChainFits, all_steps}
 use Rattle.sheets.proofs.Numbered.{every_append, every_back, has, apart_push, apart_before}
-use Rattle.sheets.proofs.Passing.{no_fault, same_ok, mapped_passed, mapped_passes}
+use Rattle.lines.proofs.Passing.{no_fault, same_ok, mapped_passed, mapped_passes}
 use Rattle.sheets.proofs.Steps.{none_bad, all_kept, begun_with}
 
 abbrev pub sheet : List NodeLine → List Written → Sheet

@@ -1,60 +1,35 @@
 -- A text of lines that hold no line feed has just those lines.
-use Rattle.std.proofs.Common.{◌≡◌, ℕ, ◌<◌, ◌≤◌, true, false, cond, eqb, leb, List, [], ◌∷◌, ◌++◌, length, is_ok, Ok, decimal, sym, refl, ap, ◌∙◌, arith}
-use Rattle.std.specs.List.{onto_first}
-use Rattle.std.specs.Str.{all_ascii_digits}
-use Rattle.std.specs.Char.{is_ascii_digit}
-use Rattle.std.proofs.lemmas.Fmt.{digits_decimal}
-use Rattle.std.proofs.lemmas.Bool.{ne_eqb, and_parts, leb-true}
-use Rattle.mixed.specs.declared.letters.Letter.{Letter}
-use Rattle.mixed.specs.declared.letters.Letter.TheVariants.{E, P}
+use Rattle.std.proofs.Common.{◌≡◌, ℕ, ◌≤◌, true, false, cond, eqb, leb, List, [], ◌∷◌, ◌++◌, length, is_ok, Ok, sym, refl, ap, ◌∙◌, arith}
+use Rattle.std.specs.List.{AllByRecursion, onto_first}
+use Rattle.std.proofs.lemmas.Bool.{leb-true}
 use Rattle.lines.specs.declared.line.Line.{Line}
-use Rattle.lines.specs.declared.line.Line.TheVariants.{Node, Chain, Step}
 use Rattle.lines.specs.Texts.{lines_of, ended_lines, ended, text_answer}
-use Rattle.lines.specs.Writing.{letter_bytes, written_fields, by_commas, line_bytes, numbers_of, Small}
+use Rattle.lines.specs.Writing.{written_fields, by_commas, line_bytes, numbers_of, Small}
 use Rattle.lines.proofs.Ending.{all_ended, accepted_lines}
-use Rattle.lines.proofs.Numerals.{own}
+use Rattle.lines.proofs.Joining.{Plain, without, fields_plain}
 use Rattle.sheets.specs.Sheets.{Every}
-use Rattle.sheets.proofs.Passing.{test_passed}
+use Rattle.lines.proofs.Passing.{test_passed}
 
 -- no byte is a line feed
 abbrev pub NoFeed : List ℕ → Type 0
-NoFeed bs = Every (λ b. eqb b 10 ≡ false) bs
+NoFeed bs = AllByRecursion (λ b. eqb b 10 ≡ false) bs
 
 -- ## What is written holds no line feed
 
-digits_no_feed : (bs : List ℕ) → all_ascii_digits bs ≡ true → NoFeed bs
-digits_no_feed [] h = tt
-digits_no_feed (b ∷ bs) h =
-    let p = and_parts (is_ascii_digit b) (all_ascii_digits bs) h in
-    (ne_eqb b 10 (λ e. omega (arith, leb-true 48 b (and_parts _ _ p.0).0)), digits_no_feed bs p.1)
-
-number_no_feed : (n : ℕ) → n < 10000000 → NoFeed (decimal n)
-number_no_feed n h = digits_no_feed (decimal n) (digits_decimal own n (omega arith))
-
-letter_no_feed : (l : Letter) → NoFeed (letter_bytes l)
-letter_no_feed E = (refl, tt)
-letter_no_feed P = (refl, tt)
+plain_no_feed : (bs : List ℕ) → Plain bs → NoFeed bs
+plain_no_feed = without 10 (omega arith)
 
 joined_no_feed : (f g : List ℕ) → NoFeed f → NoFeed g → NoFeed (f ++ 44 ∷ g)
 joined_no_feed [] g p q = (refl, q)
 joined_no_feed (b ∷ f) g p q = (p.0, joined_no_feed f g p.1 q)
 
-commas_no_feed : (fs : List (List ℕ)) → Every NoFeed fs → NoFeed (by_commas fs)
+commas_no_feed : (fs : List (List ℕ)) → AllByRecursion Plain fs → NoFeed (by_commas fs)
 commas_no_feed [] p = tt
-commas_no_feed (f ∷ []) p = p.0
-commas_no_feed (f ∷ g ∷ fs) p = joined_no_feed f (by_commas (g ∷ fs)) p.0 (commas_no_feed (g ∷ fs) p.1)
-
-numbers_no_feed : (ns : List ℕ) → Small ns → Every (λ n. NoFeed (decimal n)) ns
-numbers_no_feed [] s = tt
-numbers_no_feed (n ∷ ns) s = (number_no_feed n s.0, numbers_no_feed ns s.1)
-
-fields_no_feed : (l : Line) → Every (λ n. NoFeed (decimal n)) (numbers_of l) → Every NoFeed (written_fields l)
-fields_no_feed (Node x) p = ((refl, (refl, (refl, (refl, tt)))), (p.0, (letter_no_feed x.letter, tt)))
-fields_no_feed (Chain x) p = ((refl, (refl, (refl, (refl, (refl, tt))))), p)
-fields_no_feed (Step x) p = ((refl, (refl, (refl, (refl, tt)))), p)
+commas_no_feed (f ∷ []) p = plain_no_feed f p.0
+commas_no_feed (f ∷ g ∷ fs) p = joined_no_feed f (by_commas (g ∷ fs)) (plain_no_feed f p.0) (commas_no_feed (g ∷ fs) p.1)
 
 pub line_no_feed : (l : Line) → Small (numbers_of l) → NoFeed (line_bytes l)
-line_no_feed l s = commas_no_feed (written_fields l) (fields_no_feed l (numbers_no_feed (numbers_of l) s))
+line_no_feed l s = commas_no_feed (written_fields l) (fields_plain l s)
 
 -- ## The lines of such a text
 

@@ -9,7 +9,7 @@ use Rattle.sheets.specs.Sheets.{Sheet, sheet_lines, sheet_bytes, panel_of, Sound
 use Rattle.sheets.proofs.Entries.{Kept}
 use Rattle.sheets.proofs.Feeds.{lines_back, text_passes, text_passed}
 use Rattle.sheets.proofs.Parsing.{same_sheet, same_records}
-use Rattle.sheets.proofs.Passing.{then_passed, then_passes}
+use Rattle.lines.proofs.Passing.{then_passed, then_passes}
 use Rattle.sheets.proofs.Records.{small_no_feed, recorded, read_back}
 use Rattle.sheets.proofs.Running.{sheet_run, sheet_small}
 use Rattle.sheets.proofs.Taking.{from_nodes}

@@ -4,7 +4,6 @@ pub mod Inverse
 pub mod Nodes
 pub mod Numbered
 pub mod Parsing
-pub mod Passing
 pub mod Records
 pub mod Running
 pub mod Steps

@@ -1,7 +1,9 @@
 -- The node lines read so far: their letters, and which nodes are given.
-use Rattle.std.proofs.Common.{◌≡◌, ℕ, zero, suc, ◌-◌, ◌<◌, ◌≤◌, Bool, true, false, cond, eqb, ◌⊎◌, List, [], ◌∷◌, ◌++◌, get_or, set, Ok, sym, refl, ap, ◌∙◌, ap₂, inl, inr, arith}
+use Rattle.std.proofs.Common.{◌≡◌, ℕ, suc, ◌-◌, ◌<◌, ◌≤◌, Bool, true, false, cond, eqb, ◌⊎◌, List, [], ◌∷◌, ◌++◌, map, get_or, set, Ok, sym, refl, ap, ◌∙◌, ap₂, inl, inr, arith}
+use Rattle.std.specs.List.{range_with_len}
 use Rattle.std.specs.Result.{result_map_both}
 use Rattle.std.proofs.lemmas.List.{ext_get_or, length-set, get_or-set_same, get_or-set_other}
+use Rattle.std.proofs.lemmas.List.FromFn.{get_or-map-range_with_len}
 use Rattle.std.proofs.lemmas.Bool.{eq-eqb, ne_eqb, le-leb, and_from, cases_eq, cond-true, cond-false, or_parts}
 use Rattle.records.specs.Ranges.{within}
 use Rattle.records.proofs.InRange.{within_true}
@@ -12,23 +14,15 @@ use Rattle.lines.specs.Faults.{in_record}
 use Rattle.reading.specs.Reading.{Nodes, is_given, give}
 use Rattle.sheets.specs.Sheets.{letter_among, letters_of, NodeFits}
 use Rattle.sheets.proofs.Numbered.{has, has_new, has_other, node_number}
-use Rattle.sheets.proofs.Passing.{then_passed, then_passes, mapped_passed, mapped_passes, test_passed, not_test_passed}
+use Rattle.lines.proofs.Passing.{then_passed, then_passes, mapped_passed, mapped_passes, test_passed, not_test_passed}
 
 -- ## One entry for each node from 1 to 8
 
 abbrev eight : {A : Type 0} → (ℕ → A) → List A
-eight f = f 1 ∷ f 2 ∷ f 3 ∷ f 4 ∷ f 5 ∷ f 6 ∷ f 7 ∷ f 8 ∷ []
+eight f = map f (range_with_len 1 8)
 
 eight_at : {A : Type 0} (f : ℕ → A) (i : ℕ) (d : A) → i < 8 → get_or (eight f) i d ≡ f (suc i)
-eight_at f zero d h = refl
-eight_at f (suc zero) d h = refl
-eight_at f (suc (suc zero)) d h = refl
-eight_at f (suc (suc (suc zero))) d h = refl
-eight_at f (suc (suc (suc (suc zero)))) d h = refl
-eight_at f (suc (suc (suc (suc (suc zero))))) d h = refl
-eight_at f (suc (suc (suc (suc (suc (suc zero)))))) d h = refl
-eight_at f (suc (suc (suc (suc (suc (suc (suc zero))))))) d h = refl
-eight_at f (suc (suc (suc (suc (suc (suc (suc (suc i)))))))) d h = absurd (omega arith)
+eight_at f i d h = get_or-map-range_with_len f 1 8 i (suc i) d h (omega arith)
 
 node_at : {A : Type 0} (f : ℕ → A) (k : ℕ) (d : A) → 1 ≤ k → k ≤ 8 → get_or (eight f) (k - 1) d ≡ f k
 node_at f k d low high = let e : suc (k - 1) ≡ k = omega arith in eight_at f (k - 1) d (omega arith) ∙ ap f e

@@ -1,5 +1,7 @@
 -- What holds of every element, and elements with numbers that are apart.
-use Rattle.std.proofs.Common.{◌≡◌, ℕ, Bool, true, false, ◌||◌, eqb, ◌⊎◌, List, [], ◌∷◌, ◌++◌, sym, refl, ap, inl, inr}
+use Rattle.std.proofs.Common.{◌≡◌, ℕ, Bool, true, false, ◌||◌, eqb, ◌⊎◌, List, [], ◌∷◌, ◌++◌, sym, refl, ◌∙◌, inl, inr}
+use Rattle.std.specs.List.{list_any}
+use Rattle.std.proofs.lemmas.List.Folds.{list_any-append}
 use Rattle.std.proofs.lemmas.Bool.{false≢true, eqb-true, eqb-false, eq-eqb, ne_eqb, or_cases, or_parts, or_from, or_left, or_right}
 use Rattle.lines.specs.declared.line.NodeLine.{NodeLine}
 use Rattle.sheets.specs.Sheets.{Every, Apart, Given}
@@ -19,17 +21,18 @@ every_back P (x ∷ xs) ys p = every_back P xs ys p.1
 
 -- an element has this number
 abbrev pub has : {A : Type 0} → (A → ℕ) → List A → ℕ → Bool
-has number [] i = false
-has number (x ∷ xs) i = eqb (number x) i || has number xs i
+has number xs i = list_any (λ x. eqb (number x) i) xs
 
 module _ {A : Type 0} (number : A → ℕ) where
   pub has_new : (xs : List A) (x : A) → has number (xs ++ x ∷ []) (number x) ≡ true
-  has_new [] x = or_left _ _ (eq-eqb (number x) (number x) refl)
-  has_new (y ∷ xs) x = or_right (eqb (number y) (number x)) _ (has_new xs x)
+  has_new xs x = list_any-append (λ y. eqb (number y) (number x)) xs (x ∷ []) ∙ or_right (has number xs (number x)) _ (or_left _ _ (eq-eqb (number x) (number x) refl))
 
   pub has_other : (xs : List A) (x : A) (i : ℕ) → (number x ≡ i → ⊥) → has number (xs ++ x ∷ []) i ≡ has number xs i
-  has_other [] x i n = or_from _ _ (ne_eqb (number x) i n) refl
-  has_other (y ∷ xs) x i n = ap (λ t. eqb (number y) i || t) (has_other xs x i n)
+  has_other xs x i n = list_any-append (λ y. eqb (number y) i) xs (x ∷ []) ∙ by (has number xs i)
+    where
+      by : (t : Bool) → (t || (eqb (number x) i || false)) ≡ t
+      by true = refl
+      by false = or_from _ _ (ne_eqb (number x) i n) refl
 
   pub apart_push : (xs : List A) (x : A) → Apart number xs → has number xs (number x) ≡ false → Apart number (xs ++ x ∷ [])
   apart_push [] x p h = (tt, tt)

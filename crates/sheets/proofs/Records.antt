@@ -9,7 +9,7 @@ use Rattle.lines.proofs.Taken.{exactly}
 use Rattle.reading.specs.Reading.{Panel, Draft, numbered, taken, line_taken, read_lines, finished}
 use Rattle.sheets.specs.Sheets.{Every}
 use Rattle.sheets.proofs.Feeds.{NoFeed, line_no_feed}
-use Rattle.sheets.proofs.Passing.{then_passed, then_passes, mapped_passed, mapped_passes}
+use Rattle.lines.proofs.Passing.{then_passed, then_passes, mapped_passed, mapped_passes}
 
 -- every number has at most seven digits
 abbrev pub SmallLine : Line → Type 0

@@ -15,7 +15,7 @@ use Rattle.sheets.specs.Sheets.{Written, Sheet, chain_lines, all_chain_lines, sh
 use Rattle.sheets.proofs.Entries.{sheet, Kept, chain_passes}
 use Rattle.sheets.proofs.Nodes.{nodes_of, give_passes}
 use Rattle.sheets.proofs.Numbered.{every_append, every_back, node_number, apart_before}
-use Rattle.sheets.proofs.Passing.{then_passes, mapped_passes}
+use Rattle.lines.proofs.Passing.{then_passes, mapped_passes}
 use Rattle.sheets.proofs.Records.{SmallLine, run}
 use Rattle.sheets.proofs.Steps.{fit_passes, step_passes, with_more, with_step_is}
 use Rattle.sheets.proofs.Taking.{bare, stage}

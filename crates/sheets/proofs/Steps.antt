@@ -11,7 +11,7 @@ use Rattle.reading.specs.Reading.{Begun, with_step, is_given, fit_answer, step_a
 use Rattle.sheets.specs.Sheets.{Written, Every, StepFits}
 use Rattle.sheets.proofs.Nodes.{nodes_of, is_given_has}
 use Rattle.sheets.proofs.Numbered.{given_from, given_has}
-use Rattle.sheets.proofs.Passing.{no_fault, then_passed, then_passes, test_passed}
+use Rattle.lines.proofs.Passing.{no_fault, then_passed, then_passes, test_passed}
 
 -- ## Fields in range
 

@@ -13,7 +13,7 @@ use Rattle.sheets.specs.Sheets.{Written, Sheet, chain_lines, all_chain_lines, sh
 use Rattle.sheets.proofs.Entries.{sheet, Kept, chain_passed}
 use Rattle.sheets.proofs.Nodes.{nodes_of, give_passed}
 use Rattle.sheets.proofs.Numbered.{every_append, node_number, apart_push}
-use Rattle.sheets.proofs.Passing.{no_fault, same_ok, then_passed, mapped_passed}
+use Rattle.lines.proofs.Passing.{no_fault, same_ok, then_passed, mapped_passed}
 use Rattle.sheets.proofs.Records.{run}
 use Rattle.sheets.proofs.Steps.{fit_passed, step_passed, begun_with, with_more, with_step_is}
 

@@ -1,5 +1,6 @@
 -- A table as it is written, and that reading is the inverse of writing it. Assumes nothing.
 use Rattle.std.specs.Prelude.{◌≡◌, ℕ, ◌+◌, ◌≤◌, true, cond, List, [], ◌∷◌, ◌++◌, map, length, Ok, Result, ◌==◌, ◌≢◌}
+use Rattle.std.specs.List.{AllByRecursion}
 use Rattle.records.specs.declared.fields.ChainFields.{ChainFields}
 use Rattle.records.specs.declared.fields.StepFields.{StepFields}
 use Rattle.records.specs.Ranges.{chain_fits, step_fits}
@@ -69,8 +70,7 @@ panel_of s = record { letters = letters_of s.nodes; chains = map held_of s.chain
 
 -- it holds of every element
 abbrev pub Every : {A : Type 0} → (A → Type 0) → List A → Type 0
-Every P [] = Unit {0}
-Every P (x ∷ xs) = P x × Every P xs
+Every P xs = AllByRecursion P xs
 
 -- no two elements have the same number
 abbrev pub Apart : {A : Type 0} → (A → ℕ) → List A → Type 0
