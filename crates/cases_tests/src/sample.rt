@@ -32,7 +32,7 @@ pub fn chain(
     deadline: u32,
     arrival_jitter: u32,
 ) -> Result<Chain, RecordFault> {
-    Chain::new(ChainFields {
+    Chain::try_from(ChainFields {
         id,
         period,
         deadline: EndToEndDeadline { ticks: deadline },

@@ -75,18 +75,6 @@ pub record Climbing (f : ℕ → ℕ) (at : ℕ) : Type 0 where
   pub under : (u : ℕ) → 1 ≤ u → f u ≡ u → at ≤ u
 
 module _ (f : ℕ → ℕ) (rising : Rises f) where
-  pub climb_starts : Climbing f 1
-  climb_starts = record { low = omega arith; rises = rising.some 1 (omega arith); under = λ u l e. l }
-
-  -- each turn that goes on raises `at`, so limit − at falls
-  pub climb_goes_on : {at : ℕ} → Climbing f at → Climbing f (f at)
-  climb_goes_on {at} c =
-      record {
-        low = rising.some at c.low;
-        rises = rising.rise at (f at) c.rises;
-        under = λ u l e. omega (arith, rising.rise at u (c.under u l e));
-      }
-
   pub climb_settles : (limit : ℕ) {at : ℕ} → Climbing f at → at ≤ limit → f at ≡ at → FirstFixed f 1 limit (Some at)
   climb_settles limit c h e = one c.low h e c.under
 

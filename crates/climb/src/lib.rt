@@ -22,6 +22,7 @@ pub fn climb<R: RisingRule>(rule: &R, limit: u32) -> Option<u32>
     ensures least { LeastFixed (R.gives rule.now) limit result }
 {
     let mut at: u32 = 1;
+    // A loop, since the rule alone says which number comes next: there is no range to go over.
     loop {
         let next = rule.apply(at);
         if next > u64::from(limit) {

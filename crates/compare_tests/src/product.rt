@@ -77,7 +77,7 @@ fn told(res: Result<Timing, Refusal>) -> Answer {
 }
 
 fn chain_of(work: &Work) -> Result<Chain, RecordFault> {
-    Chain::new(records::ChainFields {
+    Chain::try_from(records::ChainFields {
         id: small(work.chain.id),
         period: small(work.chain.period),
         deadline: EndToEndDeadline {

@@ -54,7 +54,7 @@ mod tests {
         deadline: u32,
         arrival_jitter: u32,
     ) -> Result<Chain, RecordFault> {
-        Chain::new(ChainFields {
+        Chain::try_from(ChainFields {
             id,
             period,
             deadline: EndToEndDeadline { ticks: deadline },

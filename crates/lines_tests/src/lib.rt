@@ -20,7 +20,7 @@ mod tests {
     // A chain's fields are out of range only after its line is read.
     fn chain_in(line: &[u8]) -> Result<u32, LineFault> {
         match read_line(line)? {
-            Line::Chain(fields) => Ok(Chain::new(fields)?.fields().id),
+            Line::Chain(fields) => Ok(Chain::try_from(fields)?.fields().id),
             _ => Ok(0),
         }
     }

@@ -1,8 +1,8 @@
 -- The mixture of two lawful node rules is lawful: no look is taken into the two.
-use Rattle.std.specs.Prelude.{◌≡◌, ℕ, ◌<◌, true, List, ◌++◌, length, Some, None, Option, refl}
+use Rattle.std.specs.Prelude.{◌≡◌, ℕ, true, List, ◌++◌, Some, None, Option, refl}
 use Rattle.std.proofs.Common.{arith, length-append}
 use Rattle.std.proofs.lemmas.List.{get_or_append_left}
-use Rattle.std.proofs.lemmas.Bool.{lt-ltb}
+use Rattle.std.proofs.lemmas.Bool.Decides.{nat_tests}
 use Rattle.records.specs.declared.fields.Row.{Row}
 use Rattle.climb.specs.Answers.AtMost.{over}
 use Rattle.rules.specs.Rules.{Meaning, Laws, valid, no_row}
@@ -17,7 +17,7 @@ asked_laws : (o : Option Letter) (first second : Meaning) → Laws first → Law
 asked_laws None first second f s =
     record {
       invalid = λ rows js i v. refl;
-      bounded = λ rows js i n e. let z : ◌≡◌ {A = ℕ} 0 1 = cc in absurd (omega arith);
+      bounded = λ rows js i n e. absurd cc;
       jitters = λ rows js ks i u. over;
       appended = λ rows more js ks i v. over;
       cost = λ rows js i. over;
@@ -29,8 +29,7 @@ asked_laws (Some P) first second f s = s
 letter_stays : (letters : Letters) (rows more : List Row) (js : List ℕ) (i : ℕ) → valid rows js i ≡ true → row_letter letters (rows ++ more) i ≡ row_letter letters rows i
 letter_stays letters rows more js i v =
     let inside = (valid_shows rows js i v).inside in
-    let longer : i < length (rows ++ more) = simp length-append (omega arith) in
-    rw (lt-ltb i (length rows) inside, lt-ltb i (length (rows ++ more)) longer, get_or_append_left rows more no_row i inside)
+    grind (arith, nat_tests, length-append, get_or_append_left rows more no_row i inside)
 
 pub mixture_laws : (letters : Letters) (first second : Meaning) → Laws first → Laws second → Laws (mixture letters first second)
 unfolding mixture

@@ -1,5 +1,6 @@
 // A letter for each node.
-ghost use Rattle.std.specs.Prelude.{◌≡◌, IfOk};
+ghost use Rattle.std.specs.Prelude.{◌≡◌, ◌-◌, IfOk, if◌then◌else◌};
+ghost use Rattle.records.specs.Ranges.{within};
 ghost use Rattle.mixed.specs.Letters.{all_E, letter_of, with_letter, OnlyThatNode};
 
 use records::RecordFault;
@@ -12,9 +13,16 @@ pub enum Letter {
 }
 
 // The letters of the nodes 1 to 8, in their order.
-#[derive(Clone, Copy)]
+#[derive(Clone, Copy, PartialEq, Eq, Debug)]
 pub struct Letters {
     by_node: [Letter; 8],
+}
+
+// Where a node's letter stands, for a node from 1 to 8.
+fn place_of(node: u32) -> Option<usize>
+    ensures { result ≡ (if within 1 8 node then Some (node - 1) else None) }
+{
+    (1..=8).contains(&node).then(|| node as usize - 1)
 }
 
 impl Letters {
@@ -28,25 +36,19 @@ impl Letters {
     }
 
     // The letters with another one for a node, or a fault at place 1, the node's place in a step's record.
-    pub fn with(self, node: u32, letter: Letter) -> Result<Letters, RecordFault>
+    pub fn with(mut self, node: u32, letter: Letter) -> Result<Letters, RecordFault>
         ensures value { result ≡ with_letter self node letter }
         ensures only { IfOk result (OnlyThatNode self node letter) }
     {
-        if node < 1 || node > 8 {
-            return Err(RecordFault { place: 1 });
-        }
-        let mut by_node = self.by_node;
-        by_node[node as usize - 1] = letter;
-        Ok(Letters { by_node })
+        let place = place_of(node).ok_or(RecordFault { place: 1 })?;
+        self.by_node[place] = letter;
+        Ok(self)
     }
 
     // The letter of a node from 1 to 8.
     pub fn of(&self, node: u32) -> Option<Letter>
         ensures { result ≡ letter_of self.now node }
     {
-        if node < 1 || node > 8 {
-            return None;
-        }
-        Some(self.by_node[node as usize - 1])
+        Some(self.by_node[place_of(node)?])
     }
 }

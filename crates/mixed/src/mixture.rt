@@ -43,6 +43,7 @@ impl<A: NodeRule, B: NodeRule> NodeRule for Mixed<A, B> {
 
     ghost lawful = { λ rule. mixture_laws rule.letters (A.NodeRule.answer rule.first) (B.NodeRule.answer rule.second) (A.NodeRule.lawful rule.first) (B.NodeRule.lawful rule.second) };
 
+    #[tactic(auto, unfolding(crate::specs::Mixture::mixture))]
     fn response(&self, rows: &[Row], jitters: &[u32], row: usize) -> Option<u32> {
         match self.letters.of_row(rows, row)? {
             Letter::E => self.first.response(rows, jitters, row),

@@ -17,7 +17,7 @@ fn check_steps(steps: &[StepFields]) -> Result<(), RecordFault>
     ensures { fault_place result ≡ first_bad steps.now }
 {
     for fields in steps {
-        Step::new(*fields)?;
+        Step::try_from(*fields)?;
     }
     Ok(())
 }

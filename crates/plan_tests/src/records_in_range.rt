@@ -3,14 +3,14 @@ use records::{Chain, Step};
 
 // The place of the fault, or 0 where a record is made.
 fn step_fault(node: u32, cost: u32, priority: u32) -> u32 {
-    match Step::new(step(node, cost, priority)) {
+    match Step::try_from(step(node, cost, priority)) {
         Ok(_) => 0,
         Err(fault) => fault.place,
     }
 }
 
 fn chain_fault(id: u32, period: u32, deadline: u32) -> u32 {
-    match Chain::new(chain(id, period, deadline)) {
+    match Chain::try_from(chain(id, period, deadline)) {
         Ok(_) => 0,
         Err(fault) => fault.place,
     }

@@ -74,7 +74,7 @@ fn a_solve_that_finds_nothing_forgets_and_keeps_the_chains(rt: HostRuntime) -> R
 
 #[test]
 fn a_list_of_calls_is_answered_in_order(rt: HostRuntime) -> Result<(), Fail> {
-    let Ok(first) = Chain::new(chain(3, 20, 20)) else {
+    let Ok(first) = Chain::try_from(chain(3, 20, 20)) else {
         return Err(Fail::new("the chain is in range"));
     };
     let mut calls = Vec::new(rt.alloc());

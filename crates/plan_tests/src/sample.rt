@@ -30,7 +30,7 @@ pub fn add(
     fields: ChainFields,
     steps: &[StepFields],
 ) -> Result<(), Refusal> {
-    let chain = Chain::new(fields)?;
+    let chain = Chain::try_from(fields)?;
     plan.add(chain, steps)
 }
 

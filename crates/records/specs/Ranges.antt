@@ -48,9 +48,9 @@ step_fits s = nowhere (bad_step_field s)
 abbrev pub row_fits : Row → Bool
 row_fits r = within 1 1000000 r.period && step_fits r.step
 
--- ## What the constructors answer
+-- ## What a conversion into a record answers
 
--- the place that a constructor answers, if it makes no record
+-- the place of its fault, if it makes no record
 abbrev pub fault_place : {A : Type 0} → Result A RecordFault → Option ℕ
 fault_place (Ok a) = None
 fault_place (Err fault) = Some fault.place

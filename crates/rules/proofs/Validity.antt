@@ -1,10 +1,11 @@
 -- What a valid call shows: the row is there, each row has a jitter, and every number is in its range.
-use Rattle.std.proofs.Common.{◌≡◌, ℕ, ◌<◌, ◌≤◌, Bool, true, ◌&&◌, eqb, ltb, List, length, get_or, ◌∙◌, arith}
-use Rattle.std.proofs.lemmas.Bool.{leb-true, le-leb, ltb-true, lt-ltb, eqb-true, eq-eqb}
+use Rattle.std.proofs.Common.{◌≡◌, ℕ, ◌<◌, ◌≤◌, true, List, length, get_or, ◌∙◌, arith}
+use Rattle.std.proofs.lemmas.Bool.{leb-true, le-leb}
+use Rattle.std.proofs.lemmas.Bool.Decides.{nat_tests}
 use Rattle.records.specs.declared.fields.Row.{Row}
 use Rattle.records.specs.Ranges.{row_fits}
-use Rattle.records.proofs.InRange.{RowInRange, row_in_range, and_true}
-use Rattle.rules.specs.Rules.{each_passes, jitter_fits, valid, row, no_row, Under}
+use Rattle.records.proofs.InRange.{RowInRange, row_in_range}
+use Rattle.rules.specs.Rules.{jitter_fits, valid, row, no_row, Under}
 use Rattle.rules.proofs.Lists.{Each, under_length, each_under, each_at, passes_each, each_passes_from}
 
 pub record Valid (rows : List Row) (js : List ℕ) (i : ℕ) : Type 0 where
@@ -13,29 +14,20 @@ pub record Valid (rows : List Row) (js : List ℕ) (i : ℕ) : Type 0 where
   pub small : Each (λ j. j ≤ 2000000) js
   pub fits : Each (λ r. row_fits r ≡ true) rows
 
-and_both : (a b : Bool) → a ≡ true → b ≡ true → (a && b) ≡ true
-and_both a b e f = rw e f
-
 -- the test of a call, to and from what it shows
 pub valid_shows : (rows : List Row) (js : List ℕ) (i : ℕ) → valid rows js i ≡ true → Valid rows js i
 unfolding valid
 valid_shows rows js i e =
-    let (a, e) = and_true (ltb i (length rows) && eqb (length js) (length rows) && each_passes jitter_fits js) _ e in
-    let (b, c) = and_true (ltb i (length rows) && eqb (length js) (length rows)) _ a in
-    let (d, f) = and_true (ltb i (length rows)) _ b in
-    record {
-      inside = ltb-true _ _ d;
-      one_each = eqb-true _ _ f;
-      small = passes_each jitter_fits (λ j. j ≤ 2000000) (λ j. leb-true j 2000000) js c;
-      fits = passes_each row_fits (λ r. row_fits r ≡ true) (λ r h. h) rows e;
-    }
+    let small = passes_each jitter_fits (λ j. j ≤ 2000000) (λ j. leb-true j 2000000) js in
+    let fits = passes_each row_fits (λ r. row_fits r ≡ true) (λ r h. h) rows in
+    grind (arith, nat_tests, small, fits)
 
 pub valid_from : (rows : List Row) (js : List ℕ) (i : ℕ) → Valid rows js i → valid rows js i ≡ true
 unfolding valid
 valid_from rows js i v =
-    and_both _ _ (and_both _ _ (and_both _ _ (lt-ltb _ _ v.inside) (eq-eqb _ _ v.one_each))
-    (each_passes_from jitter_fits (λ j. j ≤ 2000000) (λ j. le-leb j 2000000) js v.small))
-    (each_passes_from row_fits (λ r. row_fits r ≡ true) (λ r h. h) rows v.fits)
+    let small = each_passes_from jitter_fits (λ j. j ≤ 2000000) (λ j. le-leb j 2000000) js v.small in
+    let fits = each_passes_from row_fits (λ r. row_fits r ≡ true) (λ r h. h) rows v.fits in
+    grind (arith, nat_tests, small, fits, v.inside, v.one_each)
 
 -- a call with jitters under those of a valid call is valid
 pub valid_under : {rows : List Row} {js ks : List ℕ} {i : ℕ} → Under js ks → Valid rows ks i → Valid rows js i

@@ -1,5 +1,6 @@
 -- What a node rule means, and the laws that it shows. Assumes nothing.
 use Rattle.std.specs.Prelude.{◌≡◌, ℕ, ◌+◌, ◌≤◌, Bool, true, false, ◌&&◌, List, [], ◌∷◌, ◌++◌, length, Some, None, Option, ◌==◌, nat_le, nat_lt, slice_index, slice_index_or}
+use Rattle.std.specs.List.{list_all}
 use Rattle.records.specs.declared.fields.Row.{Row}
 use Rattle.records.specs.Ranges.{row_fits}
 use Rattle.climb.specs.Answers.{AtMost}
@@ -8,8 +9,7 @@ use Rattle.climb.specs.Answers.{AtMost}
 
 -- every one passes
 abbrev pub each_passes : {A : Type 0} → (A → Bool) → List A → Bool
-each_passes p [] = true
-each_passes p (x ∷ xs) = p x && each_passes p xs
+each_passes p xs = list_all p xs
 
 -- a jitter is at most 2,000,000
 abbrev pub jitter_fits : ℕ → Bool

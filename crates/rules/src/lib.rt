@@ -12,6 +12,7 @@ pub trait NodeRule {
     ghost answer: { Self → Meaning };
 
     // The worst-case response time of one row at these jitters, or `None` where it is over.
+    // The jitters are lent beside the rows: they change from round to round, and the rows do not.
     fn response(&self, rows: &[Row], jitters: &[u32], row: usize) -> Option<u32>
         ensures { result ≡ answer self.now rows.now jitters.now row };
 

@@ -16,7 +16,7 @@ pub(crate) fn chain_record(fields: ChainFields) -> Result<Chain, LineFault>
     ensures fits { result_map_both (λ _. tt) (λ fault. fault) result ≡ fit_answer (bad_chain_field fields) }
     ensures kept { IfOk result (λ chain. chain.fields ≡ fields) }
 {
-    Ok(Chain::new(fields)?)
+    Ok(Chain::try_from(fields)?)
 }
 
 impl Given {
@@ -24,7 +24,7 @@ impl Given {
     pub(crate) fn check_step(&self, step: StepFields) -> Result<(), LineFault>
         ensures { result ≡ step_answer self.now.by_node step }
     {
-        Step::new(step)?;
+        Step::try_from(step)?;
         if self.has(step.node) {
             Ok(())
         } else {
