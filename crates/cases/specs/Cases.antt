@@ -1,5 +1,5 @@
 -- Worked cases: calls on a new plan, one after another, each beside its answer. Assumes nothing.
-use Rattle.std.specs.Prelude.{◌≡◌, ℕ, List, [], ◌∷◌, ◌++◌, map, Ok, refl}
+use Rattle.std.specs.Prelude.{◌≡◌, ℕ, List, [], ◌∷◌, ◌++◌, map, Ok, Err, refl}
 use Rattle.records.specs.declared.fields.ChainFields.{ChainFields}
 use Rattle.records.specs.declared.fields.StepFields.{StepFields}
 use Rattle.records.specs.declared.record.Chain.{Chain}
@@ -10,10 +10,9 @@ use Rattle.mixed.specs.declared.letters.Letter.TheVariants.{E, P}
 use Rattle.mixed.specs.declared.letters.Letters.{Letters}
 use Rattle.mixed.specs.Letters.{all_E, with_letter}
 use Rattle.mixed.specs.Mixture.{mixture}
-use Rattle.law.specs.declared.answers.Answer.{Answer}
-use Rattle.law.specs.declared.answers.Answer.TheVariants.{Done, Solved, Told, Refused}
+use Rattle.law.specs.declared.answers.Reply.TheVariants.{Done, Solved, Told}
 use Rattle.law.specs.declared.answers.Refusal.TheVariants.{NothingCarries}
-use Rattle.law.specs.Runs.{Call}
+use Rattle.law.specs.Runs.{Call, Answer}
 use Rattle.law.specs.Runs.Call.{add, drop, recost, solve, ask}
 use Rattle.law.specs.State.{new_plan, answers_to}
 
@@ -70,52 +69,52 @@ full_use = step 1 10 10 0 0 0 ∷ []
 
 -- what `ask` tells of a step: its jitter and its response
 abbrev pub tells : ℕ → ℕ → Answer
-tells jitter response = Told (record { jitter = jitter; response = response })
+tells jitter response = Ok (Told (record { jitter = jitter; response = response }))
 
 -- refusal 10, after n rounds
 abbrev pub refused : ℕ → Answer
-refused n = Refused (NothingCarries n)
+refused n = Err (NothingCarries n)
 
 abbrev pub add_two : List (Call × Answer)
-add_two = (add chain_7 steps_7, Done) ∷ (add chain_9 steps_9, Done) ∷ []
+add_two = (add chain_7 steps_7, Ok Done) ∷ (add chain_9 steps_9, Ok Done) ∷ []
 
 abbrev pub ask_two : List (Call × Answer)
 ask_two = (ask 7 1, tells 0 7) ∷ (ask 7 2, tells 8 10) ∷ (ask 9 1, tells 0 5) ∷ []
 
 abbrev pub add_third : List (Call × Answer)
-add_third = (add chain_12 steps_12, Done) ∷ []
+add_third = (add chain_12 steps_12, Ok Done) ∷ []
 
 abbrev pub ask_three : List (Call × Answer)
 ask_three = (ask 7 1, tells 0 7) ∷ (ask 7 2, tells 8 11) ∷ (ask 9 1, tells 0 5) ∷ (ask 12 1, tells 0 1) ∷ []
 
 -- three chains at once
 abbrev pub three_chains : List (Call × Answer)
-three_chains = add_two ++ add_third ++ (solve, Solved 3) ∷ ask_three
+three_chains = add_two ++ add_third ++ (solve, Ok (Solved 3)) ∷ ask_three
 
 -- two chains, then the third on top of what was found, then the two again from zeros
 abbrev pub third_comes_and_goes : List (Call × Answer)
 third_comes_and_goes =
-    add_two ++ (solve, Solved 3) ∷ ask_two
-    ++ add_third ++ (solve, Solved 2) ∷ ask_three
-    ++ (drop 12, Done) ∷ (solve, Solved 3) ∷ ask_two
+    add_two ++ (solve, Ok (Solved 3)) ∷ ask_two
+    ++ add_third ++ (solve, Ok (Solved 2)) ∷ ask_three
+    ++ (drop 12, Ok Done) ∷ (solve, Ok (Solved 3)) ∷ ask_two
 
 -- chain 9 costs 5 in place of 4, and then 6, where it responds past its deadline
 abbrev pub dearer : List (Call × Answer)
 dearer =
     add_two ++ add_third
-    ++ (recost 9 1 5, Done) ∷ (solve, Solved 3) ∷ (ask 7 1, tells 0 8) ∷ (ask 7 2, tells 9 12) ∷ (ask 9 1, tells 0 6) ∷ (ask 12 1, tells 0 1)
-    ∷ (recost 9 1 6, Done) ∷ (solve, refused 1) ∷ []
+    ++ (recost 9 1 5, Ok Done) ∷ (solve, Ok (Solved 3)) ∷ (ask 7 1, tells 0 8) ∷ (ask 7 2, tells 9 12) ∷ (ask 9 1, tells 0 6) ∷ (ask 12 1, tells 0 1)
+    ∷ (recost 9 1 6, Ok Done) ∷ (solve, refused 1) ∷ []
 
 -- a node in full use is done in time
 abbrev pub punctual_chain : List (Call × Answer)
-punctual_chain = (add punctual full_use, Done) ∷ (solve, Solved 2) ∷ (ask 1 1, tells 0 10) ∷ []
+punctual_chain = (add punctual full_use, Ok Done) ∷ (solve, Ok (Solved 2)) ∷ (ask 1 1, tells 0 10) ∷ []
 
 -- but never where a job may come late
 abbrev pub late_chain : List (Call × Answer)
-late_chain = (add late full_use, Done) ∷ (solve, refused 1) ∷ []
+late_chain = (add late full_use, Ok Done) ∷ (solve, refused 1) ∷ []
 
 abbrev pub no_chain : List (Call × Answer)
-no_chain = (solve, Solved 1) ∷ []
+no_chain = (solve, Ok (Solved 1)) ∷ []
 
 -- ## The cases
 

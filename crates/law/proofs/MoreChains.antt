@@ -8,9 +8,9 @@ use Rattle.climb.specs.Answers.{AtMost}
 use Rattle.climb.proofs.Answers.{most_trans, most_zero}
 use Rattle.rules.specs.Rules.{Meaning, Under, Laws}
 use Rattle.rules.proofs.Lists.{Each, under_append, under_front, under_zeros, each_front}
-use Rattle.law.specs.Assignments.{Held, rows_of, deadlines_of, jitters_in, jitters_of, zeros, Carries, Least}
+use Rattle.law.specs.Assignments.{Held, rows_of, deadlines_of, jitters_in, jitters_of, zeros, Carries}
 use Rattle.law.proofs.Chains.{get_or_zeros, Fine, length_deadlines, under_in_time, call_valid}
-use Rattle.law.proofs.Rounds.{BelowAll, Ready, ready_least, carries_in_time}
+use Rattle.law.proofs.Rounds.{BelowAll, Ready, carries_in_time}
 
 -- ## More chains
 
@@ -89,6 +89,3 @@ module _ (answer : Meaning) (laws : Laws answer) (cs ds : List Held) (all : Each
 module _ (answer : Meaning) (laws : Laws answer) (cs : List Held) (c : Held) (all : Each Fine (cs ++ c ∷ [])) where
   pub ready_push : {xs : List ℕ} → Ready answer cs xs → Ready answer (cs ++ c ∷ []) (xs ++ replicate (length c.rows) 0)
   ready_push s = rw (append-nil c.rows) at (ready_append answer laws cs (c ∷ []) all s)
-
-  pub least_push : {xs : List ℕ} → Least answer cs xs → Ready answer (cs ++ c ∷ []) (xs ++ replicate (length c.rows) 0)
-  least_push least = ready_push (ready_least answer laws cs (each_front Fine cs (c ∷ []) all) least)

@@ -2,8 +2,7 @@
 use Rattle.std.proofs.Common.{◌≡◌, ℕ, suc, ◌+◌, ◌<◌, List, [], ◌∷◌, ◌++◌, length, take, drop, set, sym, refl, ap, ◌∙◌, arith, length-set}
 use Rattle.std.proofs.lemmas.List.{take_more_set, drop-set-lt, drop-drop, length-take-le}
 use Rattle.rules.specs.Rules.{Meaning}
-use Rattle.law.specs.declared.answers.Answer.{Answer}
-use Rattle.law.specs.Runs.{Call, Run}
+use Rattle.law.specs.Runs.{Call, Answer, Run}
 use Rattle.law.specs.State.{Contents, call_answer, call_after, answers_to, after_calls, run_on, Leads, Keeps}
 
 module _ (answer : Meaning) where

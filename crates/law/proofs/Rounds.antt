@@ -13,7 +13,8 @@ use Rattle.law.proofs.Chains.{get_or_zeros, under_total, under_full, length_jitt
 
 -- ## Answers
 
-abbrev Answers : (ℕ → Option ℕ) → ℕ → List ℕ → Type 0
+-- a number for each place below n: what f says there
+abbrev pub Answers : (ℕ → Option ℕ) → ℕ → List ℕ → Type 0
 Answers f n ys = (length ys ≡ n) × ((i : ℕ) → i < n → f i ≡ Some (get_or ys i 0))
 
 -- a number at every place, or a place that is over

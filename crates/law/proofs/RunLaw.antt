@@ -1,8 +1,10 @@
 -- Runs of calls: every call has one right answer, which the calls before it fix.
-use Rattle.std.proofs.Common.{◌≡◌, ℕ, zero, suc, ◌+◌, ◌-◌, ◌≤◌, Bool, true, false, cond, not, eqb, leb, List, [], ◌∷◌, ◌++◌, map, length, replicate, is_some, Some, None, Option, sym, refl, ap, ◌∙◌, true≢false, arith}
+use Rattle.std.proofs.Common.{◌≡◌, ℕ, zero, suc, ◌+◌, ◌-◌, ◌≤◌, Bool, true, false, cond, not, eqb, leb, List, [], ◌∷◌, ◌++◌, map, length, replicate, is_some, Some, None, Option, Ok, Err, sym, refl, ap, ◌∙◌, true≢false, arith}
 use mathlib.Core.Bool.{false≢true}
 use lib.ListN.{length-map}
-use Rattle.std.proofs.lemmas.Bool.{leb-true, le-leb}
+use Rattle.std.proofs.lemmas.Bool.{not-true, leb-true, le-leb, cond_both}
+use Rattle.std.proofs.lemmas.Option.{none-some}
+use Rattle.std.specs.Result.{is_ok}
 use Rattle.records.specs.declared.fields.Row.{Row}
 use Rattle.records.specs.declared.fields.StepFields.{StepFields}
 use Rattle.records.specs.declared.record.Chain.{Chain}
@@ -10,13 +12,12 @@ use Rattle.records.specs.Ranges.{within, bad_step_field}
 use Rattle.records.proofs.InRange.{within_true, chain_in_range, row_in_range, row_fits_from}
 use Rattle.rules.specs.Rules.{Meaning, Laws}
 use Rattle.rules.proofs.Lists.{Each, each_append, each_front, under_zeros}
-use Rattle.law.specs.declared.answers.Answer.{Answer}
-use Rattle.law.specs.declared.answers.Answer.TheVariants.{Done, Solved, Told, Refused}
+use Rattle.law.specs.declared.answers.Reply.TheVariants.{Done, Solved, Told}
 use Rattle.law.specs.declared.answers.Refusal.{Refusal}
 use Rattle.law.specs.declared.answers.Refusal.TheVariants.{NotSolved, NothingCarries}
 use Rattle.law.specs.Assignments.{Held, rows_of, Least, Rounds}
 use Rattle.law.specs.Refusals.{forgets}
-use Rattle.law.specs.Runs.{Call, Run, row_of, holding, without, costing, with_cost, recosted_chain, recosted, held, holds, steps_of, first_bad, need, need_fields, add_answer, drop_answer, at_step, recost_answer, told, standing, current, Start, Counted, Solves, Tells, Right, Lawful}
+use Rattle.law.specs.Runs.{Call, Answer, Run, row_of, holding, without, costing, with_cost, recosted_chain, recosted, held, holds, steps_of, first_bad, need, need_fields, add_answer, drop_answer, at_step, recost_answer, told, standing, current, Start, Counted, Solves, Tells, Right, Lawful}
 use Rattle.law.specs.Runs.Call.{add, drop, recost, solve, ask}
 use Rattle.law.specs.Runs.Solves.{finds, finds_none}
 use Rattle.law.proofs.Chains.{Fits, Fine}
@@ -25,25 +26,21 @@ use Rattle.law.proofs.Rounds.{least_same, Ready, Ends, ready_zeros, ready_least,
 
 -- ## Tests
 
-not_true : (b : Bool) → not b ≡ true → b ≡ false
-not_true true e = sym e
-not_true false e = refl
+not_refused : {why : Refusal} → Ok Done ≡ Err why → ⊥
+not_refused e = true≢false (ap is_ok e)
 
-not_refused : {why : Refusal} → Done ≡ Refused why → ⊥
-not_refused e = let z : ◌≡◌ {A = ℕ} 0 1 = cc in omega arith
-
-pub need_done : (b : Bool) (why : Refusal) (rest : Answer) → Done ≡ need b why rest → (b ≡ true) × (Done ≡ rest)
+pub need_done : (b : Bool) (why : Refusal) (rest : Answer) → Ok Done ≡ need b why rest → (b ≡ true) × (Ok Done ≡ rest)
 need_done true why rest e = (refl, e)
 need_done false why rest e = absurd (not_refused e)
 
-need_fields_done : (o : Option ℕ) (rest : Answer) → Done ≡ need_fields o rest → (o ≡ None) × (Done ≡ rest)
+need_fields_done : (o : Option ℕ) (rest : Answer) → Ok Done ≡ need_fields o rest → (o ≡ None) × (Ok Done ≡ rest)
 need_fields_done None rest e = (refl, e)
 need_fields_done (Some place) rest e = absurd (not_refused e)
 
 -- an answer is the one named, or a refusal that forgets nothing
-data OrRefused (wanted : Answer) : Answer → Type 0 where
+pub data OrRefused (wanted : Answer) : Answer → Type 0 where
   as_wanted : OrRefused wanted wanted
-  refusal : {why : Refusal} → forgets why ≡ false → OrRefused wanted (Refused why)
+  refusal : {why : Refusal} → forgets why ≡ false → OrRefused wanted (Err why)
 
 need_or : {wanted : Answer} (b : Bool) (why : Refusal) (rest : Answer) → forgets why ≡ false → OrRefused wanted rest → OrRefused wanted (need b why rest)
 need_or true why rest f o = o
@@ -56,30 +53,21 @@ need_fields_or (Some place) rest o = refusal refl
 at_step_or : (cs : List Held) (i k : ℕ) {wanted : Answer} (rest : Answer) → OrRefused wanted rest → OrRefused wanted (at_step cs i k rest)
 at_step_or cs i k rest o = need_or (holds cs i) _ _ refl (need_or (within 1 (steps_of cs i) k) _ _ refl o)
 
-add_or : (cs : List Held) (c : Chain) (steps : List StepFields) → OrRefused Done (add_answer cs c steps)
+pub add_or : (cs : List Held) (c : Chain) (steps : List StepFields) → OrRefused (Ok Done) (add_answer cs c steps)
 add_or cs c steps =
     need_fields_or (first_bad steps) _ (need_or (within 1 16 (length steps)) _ _ refl (need_or (leb (length cs + 1) 16) _ _ refl
     (need_or (leb (length (rows_of cs) + length steps) 64) _ _ refl (need_or (not (holds cs c.fields.id)) _ _ refl as_wanted))))
 
-drop_or : (cs : List Held) (i : ℕ) → OrRefused Done (drop_answer cs i)
+pub drop_or : (cs : List Held) (i : ℕ) → OrRefused (Ok Done) (drop_answer cs i)
 drop_or cs i = need_or (holds cs i) _ _ refl as_wanted
 
-recost_or : (cs : List Held) (i k cost : ℕ) → OrRefused Done (recost_answer cs i k cost)
+pub recost_or : (cs : List Held) (i k cost : ℕ) → OrRefused (Ok Done) (recost_answer cs i k cost)
 recost_or cs i k cost = at_step_or cs i k _ (need_or (within 1 1000000 cost) _ _ refl as_wanted)
 
 -- a refused add, drop or recost forgets nothing
-refusal_mild : {a : Answer} {why : Refusal} → OrRefused Done a → Refused why ≡ a → forgets why ≡ false
+pub refusal_mild : {a : Answer} {why : Refusal} → OrRefused (Ok Done) a → Err why ≡ a → forgets why ≡ false
 refusal_mild as_wanted e = absurd (not_refused (sym e))
 refusal_mild {why = why} (refusal {why = other} f) e = let s : why ≡ other = cc in rw s f
-
-pub add_refusal_mild : (cs : List Held) (c : Chain) (steps : List StepFields) (why : Refusal) → Refused why ≡ add_answer cs c steps → forgets why ≡ false
-add_refusal_mild cs c steps why e = refusal_mild (add_or cs c steps) e
-
-pub drop_refusal_mild : (cs : List Held) (i : ℕ) (why : Refusal) → Refused why ≡ drop_answer cs i → forgets why ≡ false
-drop_refusal_mild cs i why e = refusal_mild (drop_or cs i) e
-
-pub recost_refusal_mild : (cs : List Held) (i k cost : ℕ) (why : Refusal) → Refused why ≡ recost_answer cs i k cost → forgets why ≡ false
-recost_refusal_mild cs i k cost why e = refusal_mild (recost_or cs i k cost) e
 
 -- ## The chains held are fine
 
@@ -94,7 +82,7 @@ rows_fit c (s ∷ steps) e = let w = both (bad_step_field s) e in (row_of_fits c
   where
     both : (o : Option ℕ) → ◌≡◌ {A = Option ℕ} (elim o [ Some place ↦ Some place | None ↦ first_bad steps ]) None → (o ≡ None) × (first_bad steps ≡ None)
     both None e = (refl, e)
-    both (Some place) e = let z : ◌≡◌ {A = ℕ} 0 1 = cc in absurd (omega arith)
+    both (Some place) e = absurd (none-some place (sym e))
 
 -- what an add that is done passed
 pub record AddDone (cs : List Held) (c : Chain) (steps : List StepFields) : Type 0 where
@@ -104,14 +92,14 @@ pub record AddDone (cs : List Held) (c : Chain) (steps : List StepFields) : Type
   pub rows : length (rows_of cs) + length steps ≤ 64
   pub new_id : holds cs c.fields.id ≡ false
 
-pub add_done : (cs : List Held) (c : Chain) (steps : List StepFields) → Done ≡ add_answer cs c steps → AddDone cs c steps
+pub add_done : (cs : List Held) (c : Chain) (steps : List StepFields) → Ok Done ≡ add_answer cs c steps → AddDone cs c steps
 add_done cs c steps e =
     let (a, e) = need_fields_done (first_bad steps) _ e in
     let (b, e) = need_done (within 1 16 (length steps)) _ _ e in
     let (d, e) = need_done (leb (length cs + 1) 16) _ _ e in
     let (f, e) = need_done (leb (length (rows_of cs) + length steps) 64) _ _ e in
     let (g, e) = need_done (not (holds cs c.fields.id)) _ _ e in
-    record { fields = a; count = within_true 1 16 (length steps) b; chains = leb-true _ _ d; rows = leb-true _ _ f; new_id = not_true _ g }
+    record { fields = a; count = within_true 1 16 (length steps) b; chains = leb-true _ _ d; rows = leb-true _ _ f; new_id = not-true _ g }
 
 added_fine : (cs : List Held) (c : Chain) (steps : List StepFields) → AddDone cs c steps → Fine (holding c steps)
 added_fine cs c steps d =
@@ -124,7 +112,7 @@ added_fine cs c steps d =
     }
 
 -- the cost of a recost that is done is in range
-pub recost_done : (cs : List Held) (i k cost : ℕ) → Done ≡ recost_answer cs i k cost → (1 ≤ cost) × (cost ≤ 1000000)
+pub recost_done : (cs : List Held) (i k cost : ℕ) → Ok Done ≡ recost_answer cs i k cost → (1 ≤ cost) × (cost ≤ 1000000)
 recost_done cs i k cost e =
     let (a, e) = need_done (holds cs i) _ _ e in
     let (b, e) = need_done (within 1 (steps_of cs i) k) _ _ e in
@@ -160,32 +148,27 @@ recosted_fine k cost range c f =
       arrival = f.arrival;
     }
 
--- what holds of both sides holds of the side that a test takes
-pub either : {A : Type 0} (P : A → Type 0) (b : Bool) (x y : A) → P x → P y → P (cond b x y)
-either P true x y p q = p
-either P false x y p q = q
-
 -- what holds of each chain holds of each when one is dropped, or is recosted
 pub each_without : (P : Held → Type 0) (i : ℕ) (cs : List Held) → Each P cs → Each P (without i cs)
 each_without P i [] p = tt
-each_without P i (c ∷ cs) p = either (Each P) (eqb c.chain.id i) cs (c ∷ without i cs) p.1 (p.0, each_without P i cs p.1)
+each_without P i (c ∷ cs) p = cond_both (eqb c.chain.id i) cs (c ∷ without i cs) (Each P) (λ _. p.1) (λ _. (p.0, each_without P i cs p.1))
 
 pub each_recosted : (P : Held → Type 0) (i k cost : ℕ) (cs : List Held) → ((c : Held) → P c → P (recosted_chain k cost c)) → Each P cs → Each P (recosted i k cost cs)
 each_recosted P i k cost [] f p = tt
 each_recosted P i k cost (c ∷ cs) f p =
-    either (Each P) (eqb c.chain.id i) (recosted_chain k cost c ∷ cs) (c ∷ recosted i k cost cs) (f c p.0, p.1) (p.0, each_recosted P i k cost cs f p.1)
+    cond_both (eqb c.chain.id i) (recosted_chain k cost c ∷ cs) (c ∷ recosted i k cost cs) (Each P) (λ _. (f c p.0, p.1)) (λ _. (p.0, each_recosted P i k cost cs f p.1))
 
 -- ## What a right answer can be
 
 -- the kinds of call with a right answer
 pub data Kind (answer : Meaning) (h : Run) : Call → Answer → Type 0 where
-  added : {c : Chain} {steps : List StepFields} → Done ≡ add_answer (held h) c steps → Kind answer h (add c steps) Done
-  dropped : {i : ℕ} → Kind answer h (drop i) Done
-  recosts : {i k cost : ℕ} → Done ≡ recost_answer (held h) i k cost → Kind answer h (recost i k cost) Done
-  found : {n : ℕ} {xs : List ℕ} → Least answer (held h) xs → Kind answer h solve (Solved n)
-  found_none : {n : ℕ} → Kind answer h solve (Refused (NothingCarries n))
-  asked : {i k j r : ℕ} → Kind answer h (ask i k) (Told (record { jitter = j; response = r }))
-  turned_down : {c : Call} {why : Refusal} → forgets why ≡ false → Kind answer h c (Refused why)
+  added : {c : Chain} {steps : List StepFields} → Ok Done ≡ add_answer (held h) c steps → Kind answer h (add c steps) (Ok Done)
+  dropped : {i : ℕ} → Kind answer h (drop i) (Ok Done)
+  recosts : {i k cost : ℕ} → Ok Done ≡ recost_answer (held h) i k cost → Kind answer h (recost i k cost) (Ok Done)
+  found : {n : ℕ} {xs : List ℕ} → Least answer (held h) xs → Kind answer h solve (Ok (Solved n))
+  found_none : {n : ℕ} → Kind answer h solve (Err (NothingCarries n))
+  asked : {i k j r : ℕ} → Kind answer h (ask i k) (Ok (Told (record { jitter = j; response = r })))
+  turned_down : {c : Call} {why : Refusal} → forgets why ≡ false → Kind answer h c (Err why)
 
 module _ (answer : Meaning) (h : Run) where
   kind_or : {c : Call} {wanted a : Answer} → (a ≡ wanted → Kind answer h c wanted) → OrRefused wanted a → Kind answer h c a
@@ -198,7 +181,7 @@ module _ (answer : Meaning) (h : Run) where
 
   kind_ask : (i k : ℕ) (a : Answer) (b : Bool) → current h ≡ b → Tells answer h i k a → Kind answer h (ask i k) a
   kind_ask i k a true e t = let (xs, least, is) = t.solved e in kind_or (λ w. asked) (rw (← is) at (at_step_or (held h) i k (told (held h) xs i k) as_wanted))
-  kind_ask i k a false e t = kind_or (λ w. turned_down refl) (rw (← t.unsolved e) at (at_step_or (held h) i k (Refused NotSolved) as_wanted))
+  kind_ask i k a false e t = kind_or (λ w. turned_down refl) (rw (← t.unsolved e) at (at_step_or (held h) i k (Err NotSolved) as_wanted))
 
   pub kind : (c : Call) (a : Answer) → Right answer h c a → Kind answer h c a
   kind (add c steps) a e = kind_or (λ w. added (sym w ∙ e)) (rw (← e) at (add_or (held h) c steps))
@@ -290,8 +273,8 @@ module _ (answer : Meaning) (laws : Laws answer) where
 
 -- a solve's answer is what its rounds end in
 abbrev pub verdict : ℕ → Option (List ℕ) → Answer
-verdict n None = Refused (NothingCarries n)
-verdict n (Some xs) = Solved n
+verdict n None = Err (NothingCarries n)
+verdict n (Some xs) = Ok (Solved n)
 
 module _ (answer : Meaning) (laws : Laws answer) (h : Run) where
   pub verdict_solves : (n : ℕ) (end : Option (List ℕ)) → Each Fine (held h) → Counted answer h n end → Solves answer h (verdict n end)
@@ -338,7 +321,7 @@ module _ (answer : Meaning) (laws : Laws answer) (h : Run) (l : Lawful answer h)
   ask_answered i k true e =
       let (xs, start, least) = current_stands answer h l e in
       (at_step (held h) i k (told (held h) xs i k), record { solved = λ _. (xs, least, refl); unsolved = λ d. absurd (true≢false (sym e ∙ d)) })
-  ask_answered i k false e = (at_step (held h) i k (Refused NotSolved), record { solved = λ d. absurd (false≢true (sym e ∙ d)); unsolved = λ _. refl })
+  ask_answered i k false e = (at_step (held h) i k (Err NotSolved), record { solved = λ d. absurd (false≢true (sym e ∙ d)); unsolved = λ _. refl })
 
   -- every call has a right answer
   pub answered : (c : Call) → (a : Answer) × Right answer h c a

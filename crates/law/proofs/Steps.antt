@@ -1,24 +1,24 @@
 -- Each call's step of the law over runs.
-use Rattle.std.proofs.Common.{◌≡◌, ℕ, zero, suc, ◌<◌, ◌≤◌, Bool, true, false, cond, eqb, leb, ◌⊎◌, List, [], ◌∷◌, ◌++◌, length, get_or, take, Some, None, Option, sym, refl, ap, ◌∙◌, inl, inr, add_comm, arith, length-append, take_all, take-suc}
+use Rattle.std.proofs.Common.{◌≡◌, ℕ, zero, suc, ◌<◌, ◌≤◌, Bool, true, false, cond, eqb, leb, ◌⊎◌, List, [], ◌∷◌, ◌++◌, length, get_or, take, Some, None, Option, Ok, Err, sym, refl, ap, ◌∙◌, inl, inr, add_comm, arith, length-append, take_all, take-suc}
 use mathlib.Core.Bool.{false≢true}
 use Rattle.std.proofs.lemmas.List.{get_or_append_left, get_or_push}
-use Rattle.std.proofs.lemmas.Bool.{leb-true, le-leb, lt-leb, eqb-true, eq-eqb, cases_eq}
+use Rattle.std.proofs.lemmas.Bool.{leb-true, le-leb, lt-leb, eqb-true, eq-eqb, cases_eq, false_from_ne_true}
+use Rattle.std.proofs.lemmas.Option.{none-some, same_Some, cond_some}
 use Rattle.records.specs.declared.fields.StepFields.{StepFields}
 use Rattle.records.specs.declared.record.Chain.{Chain}
 use Rattle.rules.specs.Rules.{Meaning, Laws}
 use Rattle.rules.proofs.Lists.{under_from, under_at}
-use Rattle.law.specs.declared.answers.Answer.{Answer}
-use Rattle.law.specs.declared.answers.Answer.TheVariants.{Done, Refused}
+use Rattle.law.specs.declared.answers.Reply.TheVariants.{Done}
 use Rattle.law.specs.declared.answers.Refusal.{Refusal}
 use Rattle.law.specs.Assignments.{Held, rows_of, deadlines_of, jitters_of, Round, Rounds}
 use Rattle.law.specs.Refusals.{forgets}
-use Rattle.law.specs.Runs.{Call, Run, held, add_answer, drop_answer, recost_answer, Start, Solves, Tells, Lawful}
+use Rattle.law.specs.Runs.{Call, Answer, Run, held, add_answer, drop_answer, recost_answer, Start, Solves, Tells, Lawful}
 use Rattle.law.specs.Runs.Call.{add, drop, recost, solve, ask}
 use Rattle.law.specs.State.{Contents, new_plan, added, dropped, recosts, kept_within, behind, all_of, row_response, round, same, rounds_from, solving, solve_answer, solved_with, ask_answer, Leads, Keeps}
 use Rattle.law.specs.Determined.{Determined}
 use Rattle.law.proofs.Chains.{length_deadlines}
-use Rattle.law.proofs.Rounds.{Ends}
-use Rattle.law.proofs.RunLaw.{Kind, kind, fine_held, counted_exists, counted_ends, start_same, verdict, verdict_solves, current_stands, answered, right_same, add_refusal_mild, drop_refusal_mild, recost_refusal_mild}
+use Rattle.law.proofs.Rounds.{Answers, Ends}
+use Rattle.law.proofs.RunLaw.{Kind, kind, fine_held, counted_exists, counted_ends, start_same, verdict, verdict_solves, current_stands, answered, right_same, add_or, drop_or, recost_or, refusal_mild}
 use Rattle.law.proofs.RunLaw.Kind.{turned_down, asked}
 
 pub determined : (answer : Meaning) → Laws answer → Determined answer
@@ -36,19 +36,16 @@ none_behind None = refl
 none_behind (Some ys) = refl
 
 -- what the numbers of all rows are, if all are there
-pub all_of_shows : (f : ℕ → Option ℕ) (n : ℕ) (ys : List ℕ) → all_of f n ≡ Some ys → (length ys ≡ n) × ((i : ℕ) → i < n → f i ≡ Some (get_or ys i 0))
-all_of_shows f zero ys e = let z : ys ≡ [] = cc in (ap length z, λ i h. absurd (omega arith))
+pub all_of_shows : (f : ℕ → Option ℕ) (n : ℕ) (ys : List ℕ) → all_of f n ≡ Some ys → Answers f n ys
+all_of_shows f zero ys e = (ap length (sym (same_Some [] ys e)), λ i h. absurd (omega arith))
 all_of_shows f (suc n) ys e = by (all_of f n) (f n) refl refl e (all_of_shows f n)
   where
-    by : (o : Option (List ℕ)) (y : Option ℕ) → all_of f n ≡ o → f n ≡ y → behind o y ≡ Some ys →
-        ((zs : List ℕ) → all_of f n ≡ Some zs → (length zs ≡ n) × ((i : ℕ) → i < n → f i ≡ Some (get_or zs i 0))) →
-        (length ys ≡ suc n) × ((i : ℕ) → i < suc n → f i ≡ Some (get_or ys i 0))
-    by None y p q e rec = let z : ◌≡◌ {A = ℕ} 0 1 = cc in absurd (omega arith)
-    by (Some zs) None p q e rec = let z : ◌≡◌ {A = ℕ} 0 1 = cc in absurd (omega arith)
+    by : (o : Option (List ℕ)) (y : Option ℕ) → all_of f n ≡ o → f n ≡ y → behind o y ≡ Some ys → ((zs : List ℕ) → all_of f n ≡ Some zs → Answers f n zs) → Answers f (suc n) ys
+    by None y p q e rec = absurd (none-some ys e)
+    by (Some zs) None p q e rec = absurd (none-some ys e)
     by (Some zs) (Some y) p q e rec =
         let (l, a) = rec zs p in
-        let s : ys ≡ zs ++ y ∷ [] = cc in
-        rw s (simp length-append (omega arith), λ i h. at i h l a (cases_eq i n))
+        rw (← same_Some (zs ++ y ∷ []) ys e) (simp length-append (omega arith), λ i h. at i h l a (cases_eq i n))
       where
         at : (i : ℕ) → i < suc n → length zs ≡ n → ((k : ℕ) → k < n → f k ≡ Some (get_or zs k 0)) → (i ≡ n) ⊎ (i ≡ n → ⊥) → f i ≡ Some (get_or (zs ++ y ∷ []) i 0)
         at i h l a (inl e) = rw (e, get_or_push zs y 0 n l) q
@@ -70,12 +67,8 @@ all_of_is f (suc n) ys h a =
     rw (front, a n (omega arith), take-suc ys n 0 h)
 
 kept_shows : (d : ℕ) (o : Option ℕ) (y : ℕ) → kept_within d o ≡ Some y → (o ≡ Some y) × (y ≤ d)
-kept_shows d None y e = let z : ◌≡◌ {A = ℕ} 0 1 = cc in absurd (omega arith)
-kept_shows d (Some r) y e = by (leb r d) refl e
-  where
-    by : (b : Bool) → leb r d ≡ b → ◌≡◌ {A = Option ℕ} (cond b (Some r) None) (Some y) → (Some r ≡ Some y) × (y ≤ d)
-    by true t e = let s : r ≡ y = cc in (e, rw s at (leb-true r d t))
-    by false t e = let z : ◌≡◌ {A = ℕ} 0 1 = cc in absurd (omega arith)
+kept_shows d None y e = absurd (none-some y e)
+kept_shows d (Some r) y e = let (t, s) = cond_some (leb r d) r y e in (ap Some s, rw s at (leb-true r d t))
 
 kept_is : (d y : ℕ) → y ≤ d → kept_within d (Some y) ≡ Some y
 kept_is d y h = rw (le-leb y d h)
@@ -134,11 +127,7 @@ same_shows (x ∷ xs) (y ∷ ys) e = by (eqb x y) refl e (same_shows xs ys)
     by false t e rec = absurd (false≢true e)
 
 pub not_same : (xs ys : List ℕ) → (xs ≡ ys → ⊥) → same xs ys ≡ false
-not_same xs ys ne = by (same xs ys) refl
-  where
-    by : (b : Bool) → same xs ys ≡ b → same xs ys ≡ false
-    by true e = absurd (ne (same_shows xs ys e))
-    by false e = e
+not_same xs ys ne = false_from_ne_true (same xs ys) (λ e. ne (same_shows xs ys e))
 
 -- the rounds that there are, computed with enough allowed
 pub rounds_computed : {answer : Meaning} {cs : List Held} {xs : List ℕ} {n : ℕ} {end : Option (List ℕ)} → Rounds answer cs xs n end →
@@ -158,9 +147,9 @@ rounds_computed {answer} {cs} (Rounds.goes_on {xs} {ys} {n} {end} r ne rs) (suc 
 -- ## Add
 
 module _ (answer : Meaning) where
-  pub add_keeps : (s : Contents) (c : Chain) (steps : List StepFields) → Done ≡ add_answer s.chains c steps → Keeps answer s (add c steps) Done (added s c steps)
+  pub add_keeps : (s : Contents) (c : Chain) (steps : List StepFields) → Ok Done ≡ add_answer s.chains c steps → Keeps answer s (add c steps) (Ok Done) (added s c steps)
   add_keeps s c steps e h l =
-      let e : Done ≡ add_answer (held h) c steps = rw l.chains at e in
+      let e : Ok Done ≡ add_answer (held h) c steps = rw l.chains at e in
       record {
         lawful = (e, l.lawful);
         chains = rw l.chains;
@@ -169,7 +158,7 @@ module _ (answer : Meaning) where
       }
 
   -- a call that is refused, and forgets nothing, leads to the same plan
-  refused_keeps : (s : Contents) (call : Call) (why : Refusal) (h : Run) → forgets why ≡ false → Lawful answer ((call, Refused why) ∷ h) → Leads answer h s → Leads answer ((call, Refused why) ∷ h) s
+  refused_keeps : (s : Contents) (call : Call) (why : Refusal) (h : Run) → forgets why ≡ false → Lawful answer ((call, Err why) ∷ h) → Leads answer h s → Leads answer ((call, Err why) ∷ h) s
   refused_keeps s call why h f lawful l =
       record {
         lawful = lawful;
@@ -178,26 +167,26 @@ module _ (answer : Meaning) where
         stands = rw f l.stands;
       }
 
-  pub add_refused_keeps : (s : Contents) (c : Chain) (steps : List StepFields) (why : Refusal) → Refused why ≡ add_answer s.chains c steps → Keeps answer s (add c steps) (Refused why) s
-  add_refused_keeps s c steps why e h l = refused_keeps s (add c steps) why h (add_refusal_mild s.chains c steps why e) (rw l.chains at e, l.lawful) l
+  pub add_refused_keeps : (s : Contents) (c : Chain) (steps : List StepFields) (why : Refusal) → Err why ≡ add_answer s.chains c steps → Keeps answer s (add c steps) (Err why) s
+  add_refused_keeps s c steps why e h l = refused_keeps s (add c steps) why h (refusal_mild (add_or s.chains c steps) e) (rw l.chains at e, l.lawful) l
 
   -- ## Drop and recost
 
-  pub drop_keeps : (s : Contents) (i : ℕ) → Done ≡ drop_answer s.chains i → Keeps answer s (drop i) Done (dropped s i)
+  pub drop_keeps : (s : Contents) (i : ℕ) → Ok Done ≡ drop_answer s.chains i → Keeps answer s (drop i) (Ok Done) (dropped s i)
   drop_keeps s i e h l =
-      let e : Done ≡ drop_answer (held h) i = rw l.chains at e in
+      let e : Ok Done ≡ drop_answer (held h) i = rw l.chains at e in
       record { lawful = (e, l.lawful); chains = rw l.chains; starts = rw l.chains Start.after_drop; stands = refl }
 
-  pub drop_refused_keeps : (s : Contents) (i : ℕ) (why : Refusal) → Refused why ≡ drop_answer s.chains i → Keeps answer s (drop i) (Refused why) s
-  drop_refused_keeps s i why e h l = refused_keeps s (drop i) why h (drop_refusal_mild s.chains i why e) (rw l.chains at e, l.lawful) l
+  pub drop_refused_keeps : (s : Contents) (i : ℕ) (why : Refusal) → Err why ≡ drop_answer s.chains i → Keeps answer s (drop i) (Err why) s
+  drop_refused_keeps s i why e h l = refused_keeps s (drop i) why h (refusal_mild (drop_or s.chains i) e) (rw l.chains at e, l.lawful) l
 
-  pub recost_keeps : (s : Contents) (i k cost : ℕ) → Done ≡ recost_answer s.chains i k cost → Keeps answer s (recost i k cost) Done (recosts s i k cost)
+  pub recost_keeps : (s : Contents) (i k cost : ℕ) → Ok Done ≡ recost_answer s.chains i k cost → Keeps answer s (recost i k cost) (Ok Done) (recosts s i k cost)
   recost_keeps s i k cost e h l =
-      let e : Done ≡ recost_answer (held h) i k cost = rw l.chains at e in
+      let e : Ok Done ≡ recost_answer (held h) i k cost = rw l.chains at e in
       record { lawful = (e, l.lawful); chains = rw l.chains; starts = rw l.chains Start.after_recost; stands = refl }
 
-  pub recost_refused_keeps : (s : Contents) (i k cost : ℕ) (why : Refusal) → Refused why ≡ recost_answer s.chains i k cost → Keeps answer s (recost i k cost) (Refused why) s
-  recost_refused_keeps s i k cost why e h l = refused_keeps s (recost i k cost) why h (recost_refusal_mild s.chains i k cost why e) (rw l.chains at e, l.lawful) l
+  pub recost_refused_keeps : (s : Contents) (i k cost : ℕ) (why : Refusal) → Err why ≡ recost_answer s.chains i k cost → Keeps answer s (recost i k cost) (Err why) s
+  recost_refused_keeps s i k cost why e h l = refused_keeps s (recost i k cost) why h (refusal_mild (recost_or s.chains i k cost) e) (rw l.chains at e, l.lawful) l
 
 -- ## Solve
 

@@ -1,8 +1,7 @@
 -- The law over runs leaves no answer free. Assumes nothing.
 use Rattle.std.specs.Prelude.{◌≡◌}
 use Rattle.rules.specs.Rules.{Meaning}
-use Rattle.law.specs.declared.answers.Answer.{Answer}
-use Rattle.law.specs.Runs.{Call, Run, Right, Lawful}
+use Rattle.law.specs.Runs.{Call, Answer, Run, Right, Lawful}
 
 -- after every lawful run each call has an answer that is right, and only one
 abbrev pub Determined : Meaning → Type 0

@@ -6,15 +6,15 @@
 -- `solve` answers `Solved` where some responses carry the chains held, and has then found the least that do; where none do, it answers `NothingCarries`.
 -- It counts its rounds from what the last accepted solve found, as far as that still serves (`Start`): at most one more than the deadlines of all steps add up to, and never more than from zeros.
 -- `ask` tells a step's jitter and response in the least responses while an accepted solve stands (`current`), which it does until a chain is added, dropped or recosted or a solve finds nothing.
-use Rattle.std.specs.Prelude.{◌≡◌, ℕ, zero, suc, ◌+◌, ◌-◌, ◌≤◌, Bool, true, false, cond, not, ◌||◌, List, [], ◌∷◌, ◌++◌, map, length, replicate, is_some, Some, None, Option, ◌==◌, nat_le, slice_index}
+use Rattle.std.specs.Prelude.{◌≡◌, ℕ, zero, suc, ◌+◌, ◌-◌, ◌≤◌, Bool, true, false, cond, not, ◌||◌, List, [], ◌∷◌, ◌++◌, map, length, replicate, is_some, Some, None, Option, Ok, Err, Result, ◌==◌, nat_le, slice_index}
 use Rattle.records.specs.declared.fields.ChainFields.{ChainFields}
 use Rattle.records.specs.declared.fields.Row.{Row}
 use Rattle.records.specs.declared.fields.StepFields.{StepFields}
 use Rattle.records.specs.declared.record.Chain.{Chain}
 use Rattle.records.specs.Ranges.{within, bad_step_field}
 use Rattle.rules.specs.Rules.{Meaning}
-use Rattle.law.specs.declared.answers.Answer.{Answer}
-use Rattle.law.specs.declared.answers.Answer.TheVariants.{Done, Solved, Told, Refused}
+use Rattle.law.specs.declared.answers.Reply.{Reply}
+use Rattle.law.specs.declared.answers.Reply.TheVariants.{Done, Solved, Told}
 use Rattle.law.specs.declared.answers.Refusal.{Refusal}
 use Rattle.law.specs.declared.answers.Refusal.TheVariants.{Field, StepCount, ChainsFull, StepsFull, IdHeld, IdUnknown, NoSuchStep, CostOutOfRange, NotSolved, NothingCarries}
 use Rattle.law.specs.Assignments.{Held, rows_of, deadlines_of, jitters_of, zeros, total, Carries, Least, Rounds}
@@ -30,6 +30,10 @@ pub data Call : Type 0 where
   recost : ℕ → ℕ → ℕ → Call
   solve : Call
   ask : ℕ → ℕ → Call
+
+-- an answer: the reply, or why the call is refused
+abbrev pub Answer : Type 0
+Answer = Result Reply Refusal
 
 -- a run: the calls on one plan with their answers, the newest first
 abbrev pub Run : Type 0
@@ -87,10 +91,10 @@ changed (ask i k) cs = cs
 -- the chains held after a run, the oldest first
 abbrev pub held : Run → List Held
 held [] = []
-held ((c, Done) ∷ h) = changed c (held h)
-held ((c, Solved n) ∷ h) = held h
-held ((c, Told t) ∷ h) = held h
-held ((c, Refused why) ∷ h) = held h
+held ((c, Ok Done) ∷ h) = changed c (held h)
+held ((c, Ok (Solved n)) ∷ h) = held h
+held ((c, Ok (Told t)) ∷ h) = held h
+held ((c, Err why) ∷ h) = held h
 
 -- ## What add, drop and recost answer, by the chains held alone
 
@@ -112,12 +116,12 @@ first_bad (s ∷ steps) = elim (bad_step_field s) [ Some place ↦ Some place | 
 -- a test must hold, or the call is refused so; a call's tests stand in the order in which they are made
 abbrev pub need : Bool → Refusal → Answer → Answer
 need true why rest = rest
-need false why rest = Refused why
+need false why rest = Err why
 
 -- every field must be in range, or the call is refused with the place of the first that is not
 abbrev pub need_fields : Option ℕ → Answer → Answer
 need_fields None rest = rest
-need_fields (Some place) rest = Refused (Field (record { place = place }))
+need_fields (Some place) rest = Err (Field (record { place = place }))
 
 -- room for a chain of n steps: 1 to 16 steps, at most 16 chains with this one, at most 64 steps in all, and a new id
 abbrev pub room_answer : List Held → ℕ → ℕ → Answer
@@ -126,7 +130,7 @@ room_answer cs id n =
     (need (nat_le (length cs + 1) 16) ChainsFull
     (need (nat_le (length (rows_of cs) + n) 64) StepsFull
     (need (not (holds cs id)) IdHeld
-    Done)))
+    (Ok Done))))
 
 -- add: the fields of all steps in range, and room for the chain
 abbrev pub entry_answer : List Held → ChainFields → List StepFields → Answer
@@ -137,7 +141,7 @@ add_answer cs c steps = entry_answer cs c.fields steps
 
 -- drop: the chain must be held
 abbrev pub drop_answer : List Held → ℕ → Answer
-drop_answer cs i = need (holds cs i) IdUnknown Done
+drop_answer cs i = need (holds cs i) IdUnknown (Ok Done)
 
 -- a call that names a step: the chain must be held and have that step
 abbrev pub at_step : List Held → ℕ → ℕ → Answer → Answer
@@ -145,7 +149,7 @@ at_step cs i k rest = need (holds cs i) IdUnknown (need (within 1 (steps_of cs i
 
 -- recost: the step must be held, and the cost in range
 abbrev pub recost_answer : List Held → ℕ → ℕ → ℕ → Answer
-recost_answer cs i k cost = at_step cs i k (need (within 1 1000000 cost) CostOutOfRange Done)
+recost_answer cs i k cost = at_step cs i k (need (within 1 1000000 cost) CostOutOfRange (Ok Done))
 
 -- ## What solve and ask answer
 
@@ -160,15 +164,15 @@ place_of cs i k = first_row cs i + (k - 1)
 
 -- a step's jitter and response in the responses xs
 abbrev pub told : List Held → List ℕ → ℕ → ℕ → Answer
-told cs xs i k = Told (record { jitter = slice_index (jitters_of cs xs) (place_of cs i k); response = slice_index xs (place_of cs i k) })
+told cs xs i k = Ok (Told (record { jitter = slice_index (jitters_of cs xs) (place_of cs i k); response = slice_index xs (place_of cs i k) }))
 
 -- the rounds of the accepted solve that stands, if one does: questions and refusals that forget nothing alone came after it
 abbrev pub standing : Run → Option ℕ
 standing [] = None
-standing ((c, Done) ∷ h) = None
-standing ((c, Solved n) ∷ h) = Some n
-standing ((c, Told t) ∷ h) = standing h
-standing ((c, Refused why) ∷ h) = cond (forgets why) None (standing h)
+standing ((c, Ok Done) ∷ h) = None
+standing ((c, Ok (Solved n)) ∷ h) = Some n
+standing ((c, Ok (Told t)) ∷ h) = standing h
+standing ((c, Err why) ∷ h) = cond (forgets why) None (standing h)
 
 -- an accepted solve stands
 abbrev pub current : Run → Bool
@@ -179,13 +183,13 @@ module _ (answer : Meaning) where
   -- All are zeros before the first solve and after a drop, a recost or a solve that found nothing
   pub data Start : Run → List ℕ → Type 0 where
     new : Start [] []
-    after_solve : {h : Run} {n : ℕ} {xs : List ℕ} → Least answer (held h) xs → Start ((solve, Solved n) ∷ h) xs
-    after_nothing : {h : Run} {n : ℕ} → Start ((solve, Refused (NothingCarries n)) ∷ h) (zeros (held h))
-    after_drop : {h : Run} {i : ℕ} → Start ((drop i, Done) ∷ h) (zeros (held ((drop i, Done) ∷ h)))
-    after_recost : {h : Run} {i k cost : ℕ} → Start ((recost i k cost, Done) ∷ h) (zeros (held ((recost i k cost, Done) ∷ h)))
-    over_add : {h : Run} {c : Chain} {steps : List StepFields} {xs : List ℕ} → Start h xs → Start ((add c steps, Done) ∷ h) (xs ++ replicate (length steps) 0)
-    over_question : {h : Run} {i k j r : ℕ} {xs : List ℕ} → Start h xs → Start ((ask i k, Told (record { jitter = j; response = r })) ∷ h) xs
-    over_refusal : {h : Run} {c : Call} {why : Refusal} {xs : List ℕ} → forgets why ≡ false → Start h xs → Start ((c, Refused why) ∷ h) xs
+    after_solve : {h : Run} {n : ℕ} {xs : List ℕ} → Least answer (held h) xs → Start ((solve, Ok (Solved n)) ∷ h) xs
+    after_nothing : {h : Run} {n : ℕ} → Start ((solve, Err (NothingCarries n)) ∷ h) (zeros (held h))
+    after_drop : {h : Run} {i : ℕ} → Start ((drop i, Ok Done) ∷ h) (zeros (held ((drop i, Ok Done) ∷ h)))
+    after_recost : {h : Run} {i k cost : ℕ} → Start ((recost i k cost, Ok Done) ∷ h) (zeros (held ((recost i k cost, Ok Done) ∷ h)))
+    over_add : {h : Run} {c : Chain} {steps : List StepFields} {xs : List ℕ} → Start h xs → Start ((add c steps, Ok Done) ∷ h) (xs ++ replicate (length steps) 0)
+    over_question : {h : Run} {i k j r : ℕ} {xs : List ℕ} → Start h xs → Start ((ask i k, Ok (Told (record { jitter = j; response = r }))) ∷ h) xs
+    over_refusal : {h : Run} {c : Call} {why : Refusal} {xs : List ℕ} → forgets why ≡ false → Start h xs → Start ((c, Err why) ∷ h) xs
 
   -- a solve after a run makes n rounds, which end so: they are counted from its start, and are within both bounds
   pub record Counted (h : Run) (n : ℕ) (end : Option (List ℕ)) : Type 0 where
@@ -197,13 +201,13 @@ module _ (answer : Meaning) where
 
   -- what a solve answers: the rounds to the least responses that carry the chains, or that none do and the rounds made
   pub data Solves (h : Run) : Answer → Type 0 where
-    finds : {n : ℕ} {xs : List ℕ} → Least answer (held h) xs → Counted h n (Some xs) → Solves h (Solved n)
-    finds_none : {n : ℕ} → ((xs : List ℕ) → Carries answer (held h) xs → ⊥) → Counted h n None → Solves h (Refused (NothingCarries n))
+    finds : {n : ℕ} {xs : List ℕ} → Least answer (held h) xs → Counted h n (Some xs) → Solves h (Ok (Solved n))
+    finds_none : {n : ℕ} → ((xs : List ℕ) → Carries answer (held h) xs → ⊥) → Counted h n None → Solves h (Err (NothingCarries n))
 
   -- what a question answers: the step's numbers in the least responses where a solve stands, and else that none does
   pub record Tells (h : Run) (i k : ℕ) (a : Answer) : Type 0 where
     pub solved : current h ≡ true → (xs : List ℕ) × Least answer (held h) xs × (a ≡ at_step (held h) i k (told (held h) xs i k))
-    pub unsolved : current h ≡ false → a ≡ at_step (held h) i k (Refused NotSolved)
+    pub unsolved : current h ≡ false → a ≡ at_step (held h) i k (Err NotSolved)
 
   -- an answer is right for a call after a run
   abbrev pub Right : Run → Call → Answer → Type 0

@@ -3,13 +3,13 @@ use Rattle.std.specs.Prelude.{◌≡◌, ℕ, zero, suc, ◌+◌, Bool, true, fa
 use Rattle.records.specs.declared.fields.StepFields.{StepFields}
 use Rattle.records.specs.declared.record.Chain.{Chain}
 use Rattle.rules.specs.Rules.{Meaning}
-use Rattle.law.specs.declared.answers.Answer.{Answer}
-use Rattle.law.specs.declared.answers.Answer.TheVariants.{Done, Solved, Told, Refused}
+use Rattle.law.specs.declared.answers.Reply.{Reply}
+use Rattle.law.specs.declared.answers.Reply.TheVariants.{Done, Solved, Told}
 use Rattle.law.specs.declared.answers.Refusal.{Refusal}
 use Rattle.law.specs.declared.answers.Refusal.TheVariants.{NotSolved, NothingCarries}
 use Rattle.law.specs.Runs.Call.{add, drop, recost, solve, ask}
 use Rattle.law.specs.Assignments.{Held, rows_of, deadlines_of, jitters_of, zeros, total}
-use Rattle.law.specs.Runs.{Call, Run, holding, without, recosted, held, add_answer, drop_answer, recost_answer, at_step, told, standing, Start, Lawful}
+use Rattle.law.specs.Runs.{Call, Answer, Run, holding, without, recosted, held, add_answer, drop_answer, recost_answer, at_step, told, standing, Start, Lawful}
 
 -- what a plan holds: its chains, the responses that its next solve starts from, and the rounds of the accepted solve that stands, if one does
 pub record Contents : Type 0 where
@@ -21,9 +21,9 @@ abbrev pub new_plan : Contents
 new_plan = record { chains = []; start = []; standing = None }
 
 -- what a call's result says as an answer
-abbrev pub answer_of : {A : Type 0} → (A → Answer) → Result A Refusal → Answer
-answer_of told (Ok a) = told a
-answer_of told (Err why) = Refused why
+abbrev pub answer_of : {A : Type 0} → (A → Reply) → Result A Refusal → Answer
+answer_of told (Ok a) = Ok (told a)
+answer_of told (Err why) = Err why
 
 -- ## Add, drop and recost
 
@@ -98,7 +98,7 @@ abbrev pub solving : Meaning → Contents → Outcome
 solving answer s = rounds_from answer s.chains (1 + total (deadlines_of s.chains)) s.start
 
 abbrev pub solve_answer : Outcome → Answer
-solve_answer o = elim o.responses [ Some xs ↦ Solved o.rounds | None ↦ Refused (NothingCarries o.rounds) ]
+solve_answer o = elim o.responses [ Some xs ↦ Ok (Solved o.rounds) | None ↦ Err (NothingCarries o.rounds) ]
 
 -- after a solve: what it settled in is kept and stands; else all is forgotten but the chains
 abbrev pub solved_with : Contents → Outcome → Contents
@@ -107,7 +107,7 @@ solved_with s o = elim o.responses [ Some xs ↦ record { chains = s.chains; sta
 -- ## Ask
 
 abbrev pub ask_answer : Contents → ℕ → ℕ → Answer
-ask_answer s i k = at_step s.chains i k (cond (is_some s.standing) (told s.chains s.start i k) (Refused NotSolved))
+ask_answer s i k = at_step s.chains i k (cond (is_some s.standing) (told s.chains s.start i k) (Err NotSolved))
 
 -- ## Any call
 
@@ -120,10 +120,10 @@ call_answer answer s solve = solve_answer (solving answer s)
 call_answer answer s (ask i k) = ask_answer s i k
 
 abbrev pub is_done : Answer → Bool
-is_done Done = true
-is_done (Solved n) = false
-is_done (Told t) = false
-is_done (Refused why) = false
+is_done (Ok Done) = true
+is_done (Ok (Solved n)) = false
+is_done (Ok (Told t)) = false
+is_done (Err why) = false
 
 -- what a plan holds after a call
 abbrev pub call_after : Meaning → Contents → Call → Contents

@@ -33,11 +33,13 @@ pub struct Timing {
     pub response: u32,
 }
 
-// An answer of any call.
+// What an accepted call answers.
 #[derive(Clone, Copy, PartialEq, Eq, Debug)]
-pub enum Answer {
+pub enum Reply {
     Done,
     Solved { rounds: u32 },
     Told(Timing),
-    Refused(Refusal),
 }
+
+// An answer of any call: the reply, or why the call is refused.
+pub type Answer = Result<Reply, Refusal>;

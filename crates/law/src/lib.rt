@@ -5,5 +5,5 @@ mod answers;
 mod refusals;
 mod theorem;
 
-pub use answers::{Answer, Refusal, Timing};
+pub use answers::{Answer, Refusal, Reply, Timing};
 pub use theorem::one_right_answer;

@@ -20,6 +20,7 @@ impl Refusal {
     pub fn number(&self) -> u32
         ensures { result ≡ number_of self.now }
     {
+        // by a match, since the numbers are those of the manuals' table
         match self {
             Refusal::Field(_) => 1,
             Refusal::StepCount => 2,

@@ -1,5 +1,5 @@
 -- What a plan holds after an add, and the add's step of the law over runs.
-use Rattle.std.proofs.Common.{◌≡◌, ◌+◌, ◌<◌, ◌≤◌, Bool, true, List, [], ◌∷◌, ◌++◌, map, length, replicate, Some, None, sym, ◌∙◌, arith, length-take-le}
+use Rattle.std.proofs.Common.{◌≡◌, ◌+◌, ◌<◌, ◌≤◌, Bool, true, List, [], ◌∷◌, ◌++◌, map, length, replicate, Some, None, Ok, Err, sym, ◌∙◌, arith, length-take-le}
 use lib.ListN.{length-map}
 use Rattle.records.specs.declared.fields.RecordFault.{RecordFault}
 use Rattle.records.specs.declared.fields.StepFields.{StepFields}
@@ -8,12 +8,11 @@ use Rattle.records.specs.Ranges.{row_fits}
 use Rattle.records.proofs.InRange.{and_true}
 use Rattle.rules.specs.Rules.{each_passes, Meaning}
 use Rattle.rules.proofs.Lists.{each_passes_from}
-use Rattle.law.specs.declared.answers.Answer.{Answer}
-use Rattle.law.specs.declared.answers.Answer.TheVariants.{Done, Refused}
+use Rattle.law.specs.declared.answers.Reply.TheVariants.{Done}
 use Rattle.law.specs.declared.answers.Refusal.{Refusal}
 use Rattle.law.specs.declared.answers.Refusal.TheVariants.{Field}
 use Rattle.law.specs.Assignments.{Held}
-use Rattle.law.specs.Runs.{row_of, first_bad, room_answer, add_answer}
+use Rattle.law.specs.Runs.{Answer, row_of, first_bad, room_answer, add_answer}
 use Rattle.law.specs.Runs.Call.{add}
 use Rattle.law.specs.State.{Contents, added, Keeps}
 use Rattle.law.proofs.Chains.{Fits}
@@ -26,7 +25,7 @@ use Rattle.plan.proofs.Solving.{zeros_pass}
 
 -- ## What an add answers
 
-pub field_refused : (cs : List Held) (c : Chain) (steps : List StepFields) (fault : RecordFault) → Some fault.place ≡ first_bad steps → Refused (Field fault) ≡ add_answer cs c steps
+pub field_refused : (cs : List Held) (c : Chain) (steps : List StepFields) (fault : RecordFault) → Some fault.place ≡ first_bad steps → Err (Field fault) ≡ add_answer cs c steps
 field_refused cs c steps fault e = rw (← e)
 
 pub room_refused : (cs : List Held) (c : Chain) (steps : List StepFields) (a : Answer) → None ≡ first_bad steps → a ≡ room_answer cs c.fields.id (length steps) → a ≡ add_answer cs c steps
@@ -37,7 +36,7 @@ pub record AddMade (answer : Meaning) (before after : Contents) (c : Chain) (ste
   pub value : a ≡ add_answer before.chains c steps
   pub run : Keeps answer before (add c steps) a after
 
-pub add_refused : (answer : Meaning) (s : Contents) (c : Chain) (steps : List StepFields) (why : Refusal) → Refused why ≡ add_answer s.chains c steps → AddMade answer s s c steps (Refused why)
+pub add_refused : (answer : Meaning) (s : Contents) (c : Chain) (steps : List StepFields) (why : Refusal) → Err why ≡ add_answer s.chains c steps → AddMade answer s s c steps (Err why)
 add_refused answer s c steps why e = record { value = e; run = add_refused_keeps answer s c steps why e }
 
 -- ## What a plan holds after it
@@ -50,7 +49,7 @@ module _ {t t' : Table} (room : Room t) (c : Chain) (steps : List StepFields) (w
       (room.counted ∙ sym l) (sym (length-map steps (row_of c.fields.period))) in
       rw (w.entry, w.row, w.start, w.standing, push)
 
-  pub add_accepted : (answer : Meaning) → Done ≡ add_answer (chains_of t) c steps → AddMade answer (contents t) (contents t') c steps Done
+  pub add_accepted : (answer : Meaning) → Ok Done ≡ add_answer (chains_of t) c steps → AddMade answer (contents t) (contents t') c steps (Ok Done)
   add_accepted answer e = record { value = e; run = rw contents_added (add_keeps answer (contents t) c steps e) }
 
 pub passes_append : {A : Type 0} (p : A → Bool) (xs ys : List A) → each_passes p xs ≡ true → each_passes p ys ≡ true → each_passes p (xs ++ ys) ≡ true
@@ -88,7 +87,7 @@ pub record Tested (t : Table) (steps : List StepFields) : Type 0 where
   pub chains : t.entry_count < 16
   pub rows : t.row_count + length steps ≤ 64
 
-pub tested : {t : Table} → Room t → length t.entries ≡ 16 → t.entry_count ≤ 16 → (c : Chain) (steps : List StepFields) → Done ≡ add_answer (chains_of t) c steps → Tested t steps
+pub tested : {t : Table} → Room t → length t.entries ≡ 16 → t.entry_count ≤ 16 → (c : Chain) (steps : List StepFields) → Ok Done ≡ add_answer (chains_of t) c steps → Tested t steps
 tested {t} room whole few c steps e =
     let d = add_done (chains_of t) c steps e in
     let rows = length_rows_held room in

@@ -1,11 +1,11 @@
 -- A chain more: the rows written one by one, and what the plan then holds.
-use Rattle.std.proofs.Common.{◌≡◌, ℕ, ◌+◌, ◌<◌, ◌≤◌, Bool, true, false, cond, List, [], ◌∷◌, ◌++◌, map, length, get_or, take, drop, set, replicate, is_some, Some, None, Option, sym, refl, ap, ◌∙◌, add-zero, add_assoc, arith, length-set, take_all}
+use Rattle.std.proofs.Common.{◌≡◌, ℕ, ◌+◌, ◌<◌, ◌≤◌, Bool, true, false, cond, List, [], ◌∷◌, ◌++◌, map, length, get_or, take, drop, set, replicate, is_some, Some, None, Option, Ok, Err, sym, refl, ap, ◌∙◌, add-zero, add_assoc, arith, length-set, take_all}
 use Rattle.std.proofs.lemmas.List.{take_more, take_more_set, replicate_more, append_assoc, append-nil, map-append, at_drop_more}
 use Rattle.std.proofs.lemmas.Bool.{le-leb, lt-leb}
 use Rattle.records.specs.declared.fields.ChainFields.{ChainFields}
 use Rattle.records.specs.declared.fields.StepFields.{StepFields}
 use Rattle.records.specs.Ranges.{bad_step_field}
-use Rattle.law.specs.declared.answers.Answer.TheVariants.{Done, Refused}
+use Rattle.law.specs.declared.answers.Reply.TheVariants.{Done}
 use Rattle.law.specs.declared.answers.Refusal.TheVariants.{StepsFull, IdHeld}
 use Rattle.law.specs.Assignments.{Held, rows_of}
 use Rattle.law.specs.Runs.{row_of, holds, first_row, steps_of, first_bad, room_answer}
@@ -144,11 +144,11 @@ some_span cs i = by (holds cs i)
     by false = refl
 
 module _ (cs : List Held) (id n : ℕ) (low : 1 ≤ n) (high : n ≤ 16) (chains : length cs < 16) where
-  pub steps_full : 64 < length (rows_of cs) + n → Refused StepsFull ≡ room_answer cs id n
+  pub steps_full : 64 < length (rows_of cs) + n → Err StepsFull ≡ room_answer cs id n
   steps_full h = rw (le-leb 1 n low, le-leb n 16 high, le-leb (length cs + 1) 16 (omega arith), lt-leb (length (rows_of cs) + n) 64 h)
 
-  pub id_held : length (rows_of cs) + n ≤ 64 → holds cs id ≡ true → Refused IdHeld ≡ room_answer cs id n
+  pub id_held : length (rows_of cs) + n ≤ 64 → holds cs id ≡ true → Err IdHeld ≡ room_answer cs id n
   id_held h e = rw (le-leb 1 n low, le-leb n 16 high, le-leb (length cs + 1) 16 (omega arith), le-leb (length (rows_of cs) + n) 64 h, e)
 
-  pub room_done : length (rows_of cs) + n ≤ 64 → holds cs id ≡ false → Done ≡ room_answer cs id n
+  pub room_done : length (rows_of cs) + n ≤ 64 → holds cs id ≡ false → Ok Done ≡ room_answer cs id n
   room_done h e = rw (le-leb 1 n low, le-leb n 16 high, le-leb (length cs + 1) 16 (omega arith), le-leb (length (rows_of cs) + n) 64 h, e)

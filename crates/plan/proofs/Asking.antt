@@ -3,12 +3,11 @@ use Rattle.std.proofs.Common.{◌≡◌, ℕ, ◌+◌, ◌-◌, ◌<◌, ◌≤�
 use Rattle.std.proofs.lemmas.Bool.{le-leb}
 use Rattle.records.specs.Ranges.{within}
 use Rattle.rules.specs.Rules.{Meaning}
-use Rattle.law.specs.declared.answers.Answer.{Answer}
-use Rattle.law.specs.declared.answers.Answer.TheVariants.{Told, Refused}
+use Rattle.law.specs.declared.answers.Reply.TheVariants.{Told}
 use Rattle.law.specs.declared.answers.Refusal.{Refusal}
 use Rattle.law.specs.declared.answers.Refusal.TheVariants.{NotSolved, IdUnknown, NoSuchStep}
 use Rattle.law.specs.Assignments.{Held, rows_of, jitters_of}
-use Rattle.law.specs.Runs.{holds, first_row, steps_of, place_of, need, at_step, told}
+use Rattle.law.specs.Runs.{Answer, holds, first_row, steps_of, place_of, need, at_step, told}
 use Rattle.law.specs.Runs.Call.{ask}
 use Rattle.law.specs.State.{Contents, ask_answer, Keeps}
 use Rattle.law.proofs.Steps.{ask_keeps}
@@ -45,10 +44,10 @@ named_ok cs i k h a b = rw (h, le-leb 1 k a, le-leb k (steps_of cs i) b)
 
 -- ## What a question answers
 
-pub at_step_refused : (cs : List Held) (i k : ℕ) (why : Refusal) (rest : Answer) → Err why ≡ row_named cs i k → Refused why ≡ at_step cs i k rest
+pub at_step_refused : (cs : List Held) (i k : ℕ) (why : Refusal) (rest : Answer) → Err why ≡ row_named cs i k → Err why ≡ at_step cs i k rest
 at_step_refused cs i k why rest e = by (holds cs i) (within 1 (steps_of cs i) k) e
   where
-    by : (a b : Bool) → ◌≡◌ {A = Result ℕ Refusal} (Err why) (cond a (cond b (Ok (place_of cs i k)) (Err NoSuchStep)) (Err IdUnknown)) → Refused why ≡ need a IdUnknown (need b NoSuchStep rest)
+    by : (a b : Bool) → ◌≡◌ {A = Result ℕ Refusal} (Err why) (cond a (cond b (Ok (place_of cs i k)) (Err NoSuchStep)) (Err IdUnknown)) → Err why ≡ need a IdUnknown (need b NoSuchStep rest)
     by true true e = let z : ◌≡◌ {A = ℕ} 0 1 = cc in absurd (omega arith)
     by true false e = cc
     by false b e = cc
@@ -70,16 +69,16 @@ module _ (answer : Meaning) (s : Contents) (i k : ℕ) where
   done : (a : Answer) → a ≡ ask_answer s i k → AskDone answer s i k a
   done a e = record { value = e; run = rw e (ask_keeps answer s i k) }
 
-  pub ask_refused : (why : Refusal) → Err why ≡ row_named s.chains i k → AskDone answer s i k (Refused why)
-  ask_refused why e = done (Refused why) (at_step_refused s.chains i k why _ e)
+  pub ask_refused : (why : Refusal) → Err why ≡ row_named s.chains i k → AskDone answer s i k (Err why)
+  ask_refused why e = done (Err why) (at_step_refused s.chains i k why _ e)
 
-  pub ask_unsolved : (row : ℕ) → Ok row ≡ row_named s.chains i k → is_some s.standing ≡ false → AskDone answer s i k (Refused NotSolved)
-  ask_unsolved row e f = done (Refused NotSolved) (rw f (at_step_held s.chains i k row (Refused NotSolved) e).0)
+  pub ask_unsolved : (row : ℕ) → Ok row ≡ row_named s.chains i k → is_some s.standing ≡ false → AskDone answer s i k (Err NotSolved)
+  ask_unsolved row e f = done (Err NotSolved) (rw f (at_step_held s.chains i k row (Err NotSolved) e).0)
 
   pub ask_told : (row jitter response : ℕ) → Ok row ≡ row_named s.chains i k → is_some s.standing ≡ true →
       jitter ≡ get_or (jitters_of s.chains s.start) row 0 → response ≡ get_or s.start row 0 →
-      AskDone answer s i k (Told (record { jitter = jitter; response = response }))
+      AskDone answer s i k (Ok (Told (record { jitter = jitter; response = response })))
   ask_told row jitter response e f j r =
       let at = at_step_held s.chains i k row (told s.chains s.start i k) e in
-      let is : Told (record { jitter = jitter; response = response }) ≡ told s.chains s.start i k = rw (j, r, at.1) in
+      let is : Ok (Told (record { jitter = jitter; response = response })) ≡ told s.chains s.start i k = rw (j, r, at.1) in
       done _ (rw f (is ∙ at.0))

@@ -1,5 +1,5 @@
 -- A chain less: what a plan holds after a drop, and the drop's step of the law over runs.
-use Rattle.std.proofs.Common.{◌≡◌, ℕ, zero, suc, ◌+◌, ◌-◌, ◌<◌, ◌≤◌, Bool, true, false, cond, ◌||◌, eqb, List, [], ◌∷◌, ◌++◌, length, take, drop, replicate, None, sym, refl, ap, ◌∙◌, add_assoc, zero-add, arith, length-append, take_all, take-add}
+use Rattle.std.proofs.Common.{◌≡◌, ℕ, zero, suc, ◌+◌, ◌-◌, ◌<◌, ◌≤◌, Bool, true, false, cond, ◌||◌, eqb, List, [], ◌∷◌, ◌++◌, length, take, drop, replicate, None, Ok, Err, sym, refl, ap, ◌∙◌, add_assoc, zero-add, arith, length-append, take_all, take-add}
 use mathlib.Core.Bool.{false≢true}
 use lib.Seq.{take-append-le}
 use Rattle.std.proofs.lemmas.List.{length-take-le, length-drop, drop-drop, drop_at, append_assoc, take-replicate}
@@ -7,11 +7,10 @@ use Rattle.records.specs.declared.fields.Row.{Row}
 use Rattle.records.specs.Ranges.{row_fits}
 use Rattle.records.proofs.InRange.{and_true}
 use Rattle.rules.specs.Rules.{each_passes, Meaning}
-use Rattle.law.specs.declared.answers.Answer.{Answer}
-use Rattle.law.specs.declared.answers.Answer.TheVariants.{Done, Refused}
+use Rattle.law.specs.declared.answers.Reply.TheVariants.{Done}
 use Rattle.law.specs.declared.answers.Refusal.TheVariants.{IdUnknown}
 use Rattle.law.specs.Assignments.{Held, rows_of, zeros}
-use Rattle.law.specs.Runs.{without, holds, first_row, steps_of, drop_answer}
+use Rattle.law.specs.Runs.{Answer, without, holds, first_row, steps_of, drop_answer}
 use Rattle.law.specs.Runs.Call.{drop as drop-call}
 use Rattle.law.specs.State.{Contents, dropped, Keeps}
 use Rattle.law.proofs.Steps.{drop_keeps, drop_refused_keeps}
@@ -161,8 +160,8 @@ pub record DropMade (answer : Meaning) (before after : Contents) (id : ℕ) (a :
   pub value : a ≡ drop_answer before.chains id
   pub run : Keeps answer before (drop-call id) a after
 
-pub drop_refused : (answer : Meaning) (s : Contents) (id : ℕ) → holds s.chains id ≡ false → DropMade answer s s id (Refused IdUnknown)
-drop_refused answer s id e = let value : Refused IdUnknown ≡ drop_answer s.chains id = rw e in record { value = value; run = drop_refused_keeps answer s id IdUnknown value }
+pub drop_refused : (answer : Meaning) (s : Contents) (id : ℕ) → holds s.chains id ≡ false → DropMade answer s s id (Err IdUnknown)
+drop_refused answer s id e = let value : Err IdUnknown ≡ drop_answer s.chains id = rw e in record { value = value; run = drop_refused_keeps answer s id IdUnknown value }
 
-pub drop_accepted : (answer : Meaning) (s after : Contents) (id : ℕ) → holds s.chains id ≡ true → after ≡ dropped s id → DropMade answer s after id Done
-drop_accepted answer s after id e is = let value : Done ≡ drop_answer s.chains id = rw e in record { value = value; run = rw is (drop_keeps answer s id value) }
+pub drop_accepted : (answer : Meaning) (s after : Contents) (id : ℕ) → holds s.chains id ≡ true → after ≡ dropped s id → DropMade answer s after id (Ok Done)
+drop_accepted answer s after id e is = let value : Ok Done ≡ drop_answer s.chains id = rw e in record { value = value; run = rw is (drop_keeps answer s id value) }

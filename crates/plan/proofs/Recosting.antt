@@ -9,12 +9,11 @@ use Rattle.records.specs.Ranges.{within, row_fits}
 use Rattle.records.proofs.InRange.{within_true, and_true}
 use Rattle.rules.specs.Rules.{each_passes, Meaning, row, no_row}
 use Rattle.rules.proofs.Lists.{passes_each, each_at}
-use Rattle.law.specs.declared.answers.Answer.{Answer}
-use Rattle.law.specs.declared.answers.Answer.TheVariants.{Done, Refused}
+use Rattle.law.specs.declared.answers.Reply.TheVariants.{Done}
 use Rattle.law.specs.declared.answers.Refusal.{Refusal}
 use Rattle.law.specs.declared.answers.Refusal.TheVariants.{IdUnknown, NoSuchStep, CostOutOfRange}
 use Rattle.law.specs.Assignments.{Held, zeros}
-use Rattle.law.specs.Runs.{costing, with_cost, recosted_chain, recosted, holds, first_row, steps_of, place_of, need, at_step, recost_answer}
+use Rattle.law.specs.Runs.{Answer, costing, with_cost, recosted_chain, recosted, holds, first_row, steps_of, place_of, need, at_step, recost_answer}
 use Rattle.law.specs.Runs.Call.{recost}
 use Rattle.law.specs.State.{Contents, recosts, Keeps}
 use Rattle.law.proofs.Chains.{Fits}
@@ -141,18 +140,18 @@ pub record RecostMade (answer : Meaning) (before after : Contents) (id k cost : 
   pub run : Keeps answer before (recost id k cost) a after
 
 module _ (answer : Meaning) (s : Contents) (id k cost : ℕ) where
-  refused : (why : Refusal) → Refused why ≡ recost_answer s.chains id k cost → RecostMade answer s s id k cost (Refused why)
+  refused : (why : Refusal) → Err why ≡ recost_answer s.chains id k cost → RecostMade answer s s id k cost (Err why)
   refused why e = record { value = e; run = recost_refused_keeps answer s id k cost why e }
 
-  pub recost_unknown : (why : Refusal) → Err why ≡ row_named s.chains id k → RecostMade answer s s id k cost (Refused why)
+  pub recost_unknown : (why : Refusal) → Err why ≡ row_named s.chains id k → RecostMade answer s s id k cost (Err why)
   recost_unknown why e = refused why (at_step_refused s.chains id k why _ e)
 
-  pub recost_out_of_range : (n : ℕ) → Ok n ≡ row_named s.chains id k → within 1 1000000 cost ≡ false → RecostMade answer s s id k cost (Refused CostOutOfRange)
-  recost_out_of_range n e f = refused CostOutOfRange ((at_step_held s.chains id k n (Refused CostOutOfRange) e).0 ∙ ap (λ b. at_step s.chains id k (need b CostOutOfRange Done)) (sym f))
+  pub recost_out_of_range : (n : ℕ) → Ok n ≡ row_named s.chains id k → within 1 1000000 cost ≡ false → RecostMade answer s s id k cost (Err CostOutOfRange)
+  recost_out_of_range n e f = refused CostOutOfRange ((at_step_held s.chains id k n (Err CostOutOfRange) e).0 ∙ ap (λ b. at_step s.chains id k (need b CostOutOfRange (Ok Done))) (sym f))
 
-  pub recost_accepted : (n : ℕ) (after : Contents) → Ok n ≡ row_named s.chains id k → (1 ≤ cost) × (cost ≤ 1000000) → after ≡ recosts s id k cost → RecostMade answer s after id k cost Done
+  pub recost_accepted : (n : ℕ) (after : Contents) → Ok n ≡ row_named s.chains id k → (1 ≤ cost) × (cost ≤ 1000000) → after ≡ recosts s id k cost → RecostMade answer s after id k cost (Ok Done)
   recost_accepted n after e range is =
-      let value : Done ≡ recost_answer s.chains id k cost = (at_step_held s.chains id k n Done e).0 ∙ rw (le-leb 1 cost range.0, le-leb cost 1000000 range.1) in
+      let value : Ok Done ≡ recost_answer s.chains id k cost = (at_step_held s.chains id k n (Ok Done) e).0 ∙ rw (le-leb 1 cost range.0, le-leb cost 1000000 range.1) in
       record { value = value; run = rw is (recost_keeps answer s id k cost value) }
 
 pub bad_cost : (cost : ℕ) → (cost ≡ 0) ⊎ ((cost ≡ 0 → ⊥) × (1000000 < cost)) → within 1 1000000 cost ≡ false

@@ -1,11 +1,11 @@
 -- What a solve leaves in a plan, and its step of the law over runs.
-use Rattle.std.proofs.Common.{◌≡◌, ℕ, zero, suc, ◌≤◌, true, List, take, replicate, Some, None, sym, refl}
+use Rattle.std.proofs.Common.{◌≡◌, ℕ, zero, suc, ◌≤◌, true, List, take, replicate, Some, None, Ok, Err, sym, refl}
 use Rattle.std.proofs.lemmas.List.{take-replicate}
 use Rattle.rules.specs.Rules.{each_passes, Meaning, Laws}
-use Rattle.law.specs.declared.answers.Answer.{Answer}
-use Rattle.law.specs.declared.answers.Answer.TheVariants.{Solved, Refused}
+use Rattle.law.specs.declared.answers.Reply.TheVariants.{Solved}
 use Rattle.law.specs.declared.answers.Refusal.TheVariants.{NothingCarries}
 use Rattle.law.specs.Assignments.{zeros}
+use Rattle.law.specs.Runs.{Answer}
 use Rattle.law.specs.Runs.Call.{solve}
 use Rattle.law.specs.State.{Contents, solving, solve_answer, solved_with, Keeps}
 use Rattle.law.proofs.Steps.{solve_keeps}
@@ -32,13 +32,13 @@ module _ (answer : Meaning) (laws : Laws answer) where
   done before after a value left = record { value = value; left = left; run = rw (value, left) (solve_keeps answer laws before) }
 
   module _ (t t' : Table) (r : Settled) (came : outcome_of t r ≡ solving answer (contents t)) where
-    pub solve_kept : (kept : List ℕ) → r.responses ≡ Some kept → t' ≡ with_responses t kept (Some r.rounds) → SolveDone answer (contents t) (contents t') (Solved r.rounds)
+    pub solve_kept : (kept : List ℕ) → r.responses ≡ Some kept → t' ≡ with_responses t kept (Some r.rounds) → SolveDone answer (contents t) (contents t') (Ok (Solved r.rounds))
     solve_kept kept is e =
         let o : solving answer (contents t) ≡ record { rounds = r.rounds; responses = Some (in_use t kept) } = rw is at (sym came) in
-        done (contents t) (contents t') (Solved r.rounds) (rw o) (rw (o, e))
+        done (contents t) (contents t') (Ok (Solved r.rounds)) (rw o) (rw (o, e))
 
-    pub solve_forgot : Room t → r.responses ≡ None → t' ≡ with_responses t (replicate 64 0) None → SolveDone answer (contents t) (contents t') (Refused (NothingCarries r.rounds))
+    pub solve_forgot : Room t → r.responses ≡ None → t' ≡ with_responses t (replicate 64 0) None → SolveDone answer (contents t) (contents t') (Err (NothingCarries r.rounds))
     solve_forgot room is e =
         let o : solving answer (contents t) ≡ record { rounds = r.rounds; responses = None } = rw is at (sym came) in
         let z : in_use t (replicate 64 0) ≡ zeros (chains_of t) = rw (length_rows_held room) (take-replicate {X = ℕ} t.row_count 64 0 room.few) in
-        done (contents t) (contents t') (Refused (NothingCarries r.rounds)) (rw o) (rw (o, e, z))
+        done (contents t) (contents t') (Err (NothingCarries r.rounds)) (rw o) (rw (o, e, z))

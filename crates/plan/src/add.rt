@@ -1,7 +1,7 @@
 // Add: one chain more, or the first cause against it.
 ghost use Rattle.std.specs.Prelude.{◌≡◌, length, is_ok, if◌then◌else◌};
 ghost use Rattle.records.specs.Ranges.{fault_place};
-ghost use Rattle.law.specs.declared.answers.Answer.TheVariants.{Done};
+ghost use Rattle.law.specs.declared.answers.Reply.TheVariants.{Done};
 ghost use Rattle.law.specs.Runs.{first_bad, room_answer, add_answer};
 ghost use Rattle.law.specs.Runs.Call.{add as add_call};
 ghost use Rattle.law.specs.State.{answer_of, added, Keeps};

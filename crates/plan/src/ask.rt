@@ -1,6 +1,6 @@
 // Ask: the jitter and the response of one step.
 ghost use Rattle.std.specs.Prelude.{◌≡◌};
-ghost use Rattle.law.specs.declared.answers.Answer.TheVariants.{Told};
+ghost use Rattle.law.specs.declared.answers.Reply.TheVariants.{Told};
 ghost use Rattle.law.specs.Runs.Call.{ask as ask_call};
 ghost use Rattle.law.specs.State.{answer_of, ask_answer, Keeps};
 ghost use Rattle.plan.specs.Contents.{contents};

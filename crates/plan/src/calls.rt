@@ -1,11 +1,11 @@
 // A plan's calls as data, so that a list of them can be made one after another.
 use records::{Chain, StepFields};
 
-#[derive(Drop)]
-pub enum PlanCall {
+#[derive(Clone, Copy)]
+pub enum PlanCall<'a> {
     Add {
         chain: Chain,
-        steps: Vec<StepFields>,
+        steps: &'a [StepFields],
     },
     DropChain {
         id: u32,

@@ -1,6 +1,6 @@
 // Drop: one chain less.
 ghost use Rattle.std.specs.Prelude.{◌≡◌, is_ok, if◌then◌else◌};
-ghost use Rattle.law.specs.declared.answers.Answer.TheVariants.{Done};
+ghost use Rattle.law.specs.declared.answers.Reply.TheVariants.{Done};
 ghost use Rattle.law.specs.Runs.{drop_answer};
 ghost use Rattle.law.specs.Runs.Call.{drop as drop_call};
 ghost use Rattle.law.specs.State.{answer_of, dropped, Keeps};

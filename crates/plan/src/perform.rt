@@ -7,7 +7,7 @@ ghost use Rattle.plan.specs.Contents.{contents};
 
 use crate::calls::PlanCall;
 use crate::plan::Plan;
-use law::Answer;
+use law::{Answer, Reply};
 use rules::NodeRule;
 
 impl<R: NodeRule> Plan<R> {
@@ -19,26 +19,13 @@ impl<R: NodeRule> Plan<R> {
         ensures run { Keeps (R.answer self.old.rule) (contents self.old.table) (meant call.now) result (contents self.new.table) }
     {
         match call {
-            PlanCall::Add { chain, steps } => match self.add(*chain, steps.as_slice()) {
-                Ok(()) => Answer::Done,
-                Err(why) => Answer::Refused(why),
-            },
-            PlanCall::DropChain { id } => match self.drop_chain(*id) {
-                Ok(()) => Answer::Done,
-                Err(why) => Answer::Refused(why),
-            },
-            PlanCall::Recost { id, step, cost } => match self.recost(*id, *step, *cost) {
-                Ok(()) => Answer::Done,
-                Err(why) => Answer::Refused(why),
-            },
-            PlanCall::Solve => match self.solve() {
-                Ok(rounds) => Answer::Solved { rounds },
-                Err(why) => Answer::Refused(why),
-            },
-            PlanCall::Ask { id, step } => match self.ask(*id, *step) {
-                Ok(timing) => Answer::Told(timing),
-                Err(why) => Answer::Refused(why),
-            },
+            PlanCall::Add { chain, steps } => { self.add(*chain, steps).map(|()| Reply::Done) }
+            PlanCall::DropChain { id } => self.drop_chain(*id).map(|()| Reply::Done),
+            PlanCall::Recost { id, step, cost } => {
+                self.recost(*id, *step, *cost).map(|()| Reply::Done)
+            }
+            PlanCall::Solve => self.solve().map(|rounds| Reply::Solved { rounds }),
+            PlanCall::Ask { id, step } => self.ask(*id, *step).map(Reply::Told),
         }
     }
 
@@ -52,8 +39,9 @@ impl<R: NodeRule> Plan<R> {
         ensures run { (h : Run) → Leads (R.answer self.old.rule) h (contents self.old.table) → Leads (R.answer self.old.rule) (run_on (map meant (take result calls.now)) (take result answers.new) h) (contents self.new.table) }
     {
         let count = calls.len().min(answers.len());
-        for k in 0..count {
-            answers[k] = self.perform(&calls[k]);
+        // by an index: of answers written through `iter_mut` a proof knows the number, and not what they are
+        for (k, call) in calls[..count].iter().enumerate() {
+            answers[k] = self.perform(call);
         }
         count
     }

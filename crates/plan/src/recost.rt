@@ -1,6 +1,6 @@
 // Recost: another cost for one step.
 ghost use Rattle.std.specs.Prelude.{◌≡◌, is_ok, if◌then◌else◌};
-ghost use Rattle.law.specs.declared.answers.Answer.TheVariants.{Done};
+ghost use Rattle.law.specs.declared.answers.Reply.TheVariants.{Done};
 ghost use Rattle.law.specs.Runs.{recost_answer};
 ghost use Rattle.law.specs.Runs.Call.{recost as recost_call};
 ghost use Rattle.law.specs.State.{answer_of, recosts, Keeps};

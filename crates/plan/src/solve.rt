@@ -1,6 +1,6 @@
 // Solve: rounds from where the plan's memory stands, until one refuses or changes nothing.
 ghost use Rattle.std.specs.Prelude.{◌≡◌, true, IfSome};
-ghost use Rattle.law.specs.declared.answers.Answer.TheVariants.{Solved};
+ghost use Rattle.law.specs.declared.answers.Reply.TheVariants.{Solved};
 ghost use Rattle.law.specs.Runs.Call.{solve as solve_call};
 ghost use Rattle.law.specs.State.{answer_of, solving, solve_answer, solved_with, Keeps};
 ghost use Rattle.plan.specs.Contents.{contents, responses_fit_in, outcome_of};

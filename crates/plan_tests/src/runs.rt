@@ -1,6 +1,6 @@
 use crate::sample::{add, chain, number, step};
 use fixed::FixedPriority;
-use law::{Answer, Refusal, Timing};
+use law::{Refusal, Reply, Timing};
 use plan::{Plan, PlanCall, replay};
 use records::Chain;
 use std::test::Fail;
@@ -77,27 +77,28 @@ fn a_list_of_calls_is_answered_in_order(rt: HostRuntime) -> Result<(), Fail> {
     let Ok(first) = Chain::try_from(chain(3, 20, 20)) else {
         return Err(Fail::new("the chain is in range"));
     };
-    let mut calls = Vec::new(rt.alloc());
-    calls.push(PlanCall::Ask { id: 3, step: 1 })?;
-    let steps = [step(1, 4, 2)].to_vec(rt.alloc())?;
-    calls.push(PlanCall::Add {
-        chain: first,
-        steps,
-    })?;
-    calls.push(PlanCall::Solve)?;
-    calls.push(PlanCall::Ask { id: 3, step: 1 })?;
-    let mut answers = [Answer::Done; 5];
-    assert_eq!(rt; replay(FixedPriority, calls.as_slice(), &mut answers), 4);
-    assert_eq!(rt; answers[0], Answer::Refused(Refusal::IdUnknown));
-    assert_eq!(rt; answers[1], Answer::Done);
-    assert_eq!(rt; answers[2], Answer::Solved { rounds: 2 });
+    let steps = [step(1, 4, 2)];
+    let calls = [
+        PlanCall::Ask { id: 3, step: 1 },
+        PlanCall::Add {
+            chain: first,
+            steps: &steps,
+        },
+        PlanCall::Solve,
+        PlanCall::Ask { id: 3, step: 1 },
+    ];
+    let mut answers = [Ok(Reply::Done); 5];
+    assert_eq!(rt; replay(FixedPriority, &calls, &mut answers), 4);
+    assert_eq!(rt; answers[0], Err(Refusal::IdUnknown));
+    assert_eq!(rt; answers[1], Ok(Reply::Done));
+    assert_eq!(rt; answers[2], Ok(Reply::Solved { rounds: 2 }));
     assert_eq!(rt;
         answers[3],
-        Answer::Told(Timing {
+        Ok(Reply::Told(Timing {
             jitter: 0,
             response: 4,
-        })
+        }))
     );
-    assert_eq!(rt; answers[4], Answer::Done);
+    assert_eq!(rt; answers[4], Ok(Reply::Done));
     Ok(())
 }

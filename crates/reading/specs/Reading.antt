@@ -6,11 +6,8 @@ use Rattle.records.specs.declared.fields.StepFields.{StepFields}
 use Rattle.records.specs.Ranges.{bad_chain_field, bad_step_field}
 use Rattle.mixed.specs.declared.letters.Letters.{Letters}
 use Rattle.mixed.specs.Letters.{all_E, with_letter}
-use Rattle.law.specs.declared.answers.Answer.{Answer}
-use Rattle.law.specs.declared.answers.Answer.TheVariants.{Done, Solved, Told, Refused}
-use Rattle.law.specs.declared.answers.Refusal.{Refusal}
 use Rattle.law.specs.Assignments.{Held}
-use Rattle.law.specs.Runs.{held_as, entry_answer}
+use Rattle.law.specs.Runs.{Answer, held_as, entry_answer}
 use Rattle.lines.specs.declared.faults.Fault.TheVariants as fault
 use Rattle.lines.specs.declared.faults.LineFault.{LineFault}
 use Rattle.lines.specs.declared.faults.TableFault.{TableFault}
@@ -89,20 +86,13 @@ step_answer given s =
     fit_answer (bad_step_field s) then λ _.
     cond (is_given given s.node) (Ok tt) (Err (fault_at 2 fault.Node))
 
--- why a call is refused, if it is
-abbrev pub refusal_of : Answer → Option Refusal
-refusal_of Done = None
-refusal_of (Solved n) = None
-refusal_of (Told t) = None
-refusal_of (Refused why) = Some why
-
 -- a chain behind the others, unless the plan refuses it
-abbrev pub entered : Panel → Begun → Option Refusal → Result Panel LineFault
-entered p c None = Ok (record { letters = p.letters; chains = p.chains ++ held_as c.fields c.steps ∷ [] })
-entered p c (Some why) = Err (of_plan why)
+abbrev pub entered : Panel → Begun → Answer → Result Panel LineFault
+entered p c (Ok reply) = Ok (record { letters = p.letters; chains = p.chains ++ held_as c.fields c.steps ∷ [] })
+entered p c (Err why) = Err (of_plan why)
 
 abbrev pub entry : Panel → Begun → Result Panel LineFault
-entry p c = entered p c (refusal_of (entry_answer p.chains c.fields c.steps))
+entry p c = entered p c (entry_answer p.chains c.fields c.steps)
 
 -- the chain that is complete, behind the others, or 2 to 5 at the chain's own line
 abbrev pub with_chain : Panel → Begun → Result Panel TableFault

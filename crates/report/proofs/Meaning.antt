@@ -8,7 +8,7 @@ use Rattle.edf.specs.Edf.{earliest_deadline}
 use Rattle.fixed.specs.Laws as fixed
 use Rattle.fixed.specs.Fixed.{fixed_priority}
 use Rattle.mixed.specs.Laws.{mixture_laws}
-use Rattle.law.specs.declared.answers.Answer.TheVariants.{Solved, Refused}
+use Rattle.law.specs.declared.answers.Reply.TheVariants.{Solved}
 use Rattle.law.specs.declared.answers.Refusal.TheVariants.{NothingCarries}
 use Rattle.law.specs.Assignments.{zeros, Carries, Least, Rounds}
 use Rattle.law.specs.Runs.{Run, held, Counted, Solves, finds, finds_none, Start, after_solve}
@@ -26,10 +26,10 @@ rule_laws : (letters : Letters) → Laws (rule_of letters)
 rule_laws letters = mixture_laws letters earliest_deadline fixed_priority edf.deadline_laws fixed.fixed_laws
 
 module _ (answer : Meaning) where
-  found : {h : Run} {n : ℕ} → Solves answer h (Solved n) → (xs : List ℕ) × Least answer (held h) xs × Counted answer h n (Some xs)
+  found : {h : Run} {n : ℕ} → Solves answer h (Ok (Solved n)) → (xs : List ℕ) × Least answer (held h) xs × Counted answer h n (Some xs)
   found (finds {xs = xs} least counted) = (xs, least, counted)
 
-  none_found : {h : Run} {n : ℕ} → Solves answer h (Refused (NothingCarries n)) → ((xs : List ℕ) → Carries answer (held h) xs → ⊥) × Counted answer h n None
+  none_found : {h : Run} {n : ℕ} → Solves answer h (Err (NothingCarries n)) → ((xs : List ℕ) → Carries answer (held h) xs → ⊥) × Counted answer h n None
   none_found (finds_none none counted) = (none, counted)
 
   -- the rounds of a solve that starts from zeros

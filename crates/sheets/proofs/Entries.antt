@@ -1,17 +1,17 @@
 -- A chain that is complete is entered behind the others.
-use Rattle.std.proofs.Common.{◌≡◌, ℕ, ◌+◌, ◌≤◌, Bool, true, false, not, ◌||◌, eqb, leb, List, [], ◌∷◌, ◌++◌, map, length, take, Some, None, Ok, Option, sym, refl, ap, ◌∙◌, ap₂, arith}
+use Rattle.std.proofs.Common.{◌≡◌, ℕ, ◌+◌, ◌≤◌, Bool, true, false, not, ◌||◌, eqb, leb, List, [], ◌∷◌, ◌++◌, map, length, take, Some, None, Ok, Err, Option, sym, refl, ap, ◌∙◌, ap₂, arith}
 use Rattle.std.proofs.lemmas.List.{length-append, length-map, map-append, take_all}
-use Rattle.std.proofs.lemmas.Bool.{not-true, not_from_false, leb-true, le-leb, and_from}
+use Rattle.std.proofs.lemmas.Bool.{not-true, not_from_false, false≢true, leb-true, le-leb, and_from}
+use Rattle.std.specs.Result.{is_ok}
 use Rattle.records.specs.Ranges.{within, chain_fits}
 use Rattle.records.proofs.InRange.{within_true}
-use Rattle.law.specs.declared.answers.Answer.{Answer}
-use Rattle.law.specs.declared.answers.Answer.TheVariants.{Done}
+use Rattle.law.specs.declared.answers.Reply.TheVariants.{Done}
 use Rattle.law.specs.declared.answers.Refusal.{Refusal}
 use Rattle.law.specs.Assignments.{Held, rows_of}
-use Rattle.law.specs.Runs.{held_as, holds, first_bad, need, need_fields, room_answer, entry_answer}
+use Rattle.law.specs.Runs.{Answer, held_as, holds, first_bad, need, need_fields, room_answer, entry_answer}
 use Rattle.lines.specs.declared.line.NodeLine.{NodeLine}
 use Rattle.lines.specs.Faults.{on_line}
-use Rattle.reading.specs.Reading.{Panel, Begun, refusal_of, entered, entry, with_chain}
+use Rattle.reading.specs.Reading.{Panel, Begun, entered, entry, with_chain}
 use Rattle.sheets.specs.Sheets.{Written, Sheet, letters_of, held_of, panel_of, Every, Apart, NodeFits, StepFits, ChainFits, all_steps}
 use Rattle.sheets.proofs.Numbered.{every_append, every_back, has, apart_push, apart_before}
 use Rattle.lines.proofs.Passing.{no_fault, same_ok, mapped_passed, mapped_passes}
@@ -48,13 +48,13 @@ all_steps_append (c ∷ cs) ds = let e = all_steps_append cs ds in omega arith
 
 -- ## The tests of an entry
 
-need_passed : (b : Bool) (why : Refusal) (rest : Answer) → refusal_of (need b why rest) ≡ None → (b ≡ true) × (refusal_of rest ≡ None)
+need_passed : (b : Bool) (why : Refusal) (rest : Answer) → is_ok (need b why rest) ≡ true → (b ≡ true) × (is_ok rest ≡ true)
 need_passed true why rest h = (refl, h)
-need_passed false why rest h = let z : ◌≡◌ {A = ℕ} 0 1 = cc in absurd (omega arith)
+need_passed false why rest h = absurd (false≢true h)
 
-need_fields_passed : (o : Option ℕ) (rest : Answer) → refusal_of (need_fields o rest) ≡ None → refusal_of rest ≡ None
+need_fields_passed : (o : Option ℕ) (rest : Answer) → is_ok (need_fields o rest) ≡ true → is_ok rest ≡ true
 need_fields_passed None rest h = h
-need_fields_passed (Some place) rest h = let z : ◌≡◌ {A = ℕ} 0 1 = cc in absurd (omega arith)
+need_fields_passed (Some place) rest h = absurd (false≢true h)
 
 -- what makes room for a chain of so many steps behind these
 record Room (cs : List Written) (id n : ℕ) : Type 0 where
@@ -64,7 +64,7 @@ record Room (cs : List Written) (id n : ℕ) : Type 0 where
   few_steps : all_steps cs + n ≤ 64
   new_id : has chain_id cs id ≡ false
 
-room_passed : (cs : List Written) (id n : ℕ) → refusal_of (room_answer (map held_of cs) id n) ≡ None → Room cs id n
+room_passed : (cs : List Written) (id n : ℕ) → is_ok (room_answer (map held_of cs) id n) ≡ true → Room cs id n
 room_passed cs id n h =
     let (a, h) = need_passed (within 1 16 n) _ _ h in
     let (b, h) = need_passed (leb (length (map held_of cs) + 1) 16) _ _ h in
@@ -79,19 +79,19 @@ room_passed cs id n h =
       new_id = sym (holds_has cs id) ∙ not-true _ d;
     }
 
-need_passes : (b : Bool) (why : Refusal) (rest : Answer) → b ≡ true → rest ≡ Done → need b why rest ≡ Done
+need_passes : (b : Bool) (why : Refusal) (rest : Answer) → b ≡ true → rest ≡ Ok Done → need b why rest ≡ Ok Done
 need_passes b why rest e h = ap (λ t. need t why rest) e ∙ h
 
-room_passes : (cs : List Written) (id n : ℕ) → Room cs id n → room_answer (map held_of cs) id n ≡ Done
+room_passes : (cs : List Written) (id n : ℕ) → Room cs id n → room_answer (map held_of cs) id n ≡ Ok Done
 room_passes cs id n r =
     need_passes _ _ _ (and_from _ _ (le-leb 1 n r.some_step) (le-leb n 16 r.few))
     (need_passes _ _ _ (le-leb (length (map held_of cs) + 1) 16 (omega (arith, length-map cs held_of)))
     (need_passes _ _ _ (le-leb (length (rows_of (map held_of cs)) + n) 64 (omega (arith, rows_are_steps cs)))
     (need_passes _ _ _ (not_from_false _ (holds_has cs id ∙ r.new_id)) refl)))
 
-entered_passed : (p : Panel) (c : Begun) (o : Option Refusal) (q : Panel) → entered p c o ≡ Ok q → (o ≡ None) × (entered p c None ≡ Ok q)
-entered_passed p c None q h = (refl, h)
-entered_passed p c (Some why) q h = absurd (no_fault h)
+entered_passed : (p : Panel) (c : Begun) (a : Answer) (q : Panel) → entered p c a ≡ Ok q → (is_ok a ≡ true) × (entered p c (Ok Done) ≡ Ok q)
+entered_passed p c (Ok reply) q h = (refl, h)
+entered_passed p c (Err why) q h = absurd (no_fault h)
 
 -- ## The chain behind the others
 
@@ -117,8 +117,8 @@ pub chain_passed : (xs : List NodeLine) (cs : List Written) (n : ℕ) (c : Writt
 chain_passed xs cs n c q k fits steps h =
     let p = panel_of (sheet xs cs) in
     let kept = take 17 c.steps in
-    let (none, is) = entered_passed p (begun_with n c) (refusal_of (entry_answer p.chains c.fields kept)) q (mapped_passed (on_line n) (entry p (begun_with n c)) q h) in
-    let room = room_passed cs c.fields.id (length kept) (need_fields_passed (first_bad kept) _ none) in
+    let (taken, is) = entered_passed p (begun_with n c) (entry_answer p.chains c.fields kept) q (mapped_passed (on_line n) (entry p (begun_with n c)) q h) in
+    let room = room_passed cs c.fields.id (length kept) (need_fields_passed (first_bad kept) _ taken) in
     let all : take 17 c.steps ≡ c.steps = all_kept 17 c.steps (omega (arith, room.few)) in
     let made : panel_with xs (map held_of cs ++ held_as c.fields kept ∷ []) ≡ q = same_ok is in (
       kept_push xs cs c k fits steps (rw all at room),
@@ -139,8 +139,8 @@ chain_passes xs cs n c ds k =
       few_steps = omega (arith, k.few_steps, all_steps_append cs (c ∷ ds));
       new_id = apart_before chain_id cs c ds k.ids_once;
     } in
-    let done : entry_answer p.chains c.fields c.steps ≡ Done = ap (λ o. need_fields o (room_answer p.chains c.fields.id (length c.steps))) (none_bad xs c.steps fits.steps) ∙ room_passes cs c.fields.id (length c.steps) room in
+    let done : entry_answer p.chains c.fields c.steps ≡ Ok Done = ap (λ o. need_fields o (room_answer p.chains c.fields.id (length c.steps))) (none_bad xs c.steps fits.steps) ∙ room_passes cs c.fields.id (length c.steps) room in
     mapped_passes (on_line n) (
     ap (λ ss. entry p (record { line = n; fields = c.fields; steps = ss })) all
-    ∙ ap (λ a. entered p (record { line = n; fields = c.fields; steps = c.steps }) (refusal_of a)) done ∙ ap Ok (sym (panel_push xs cs c))
+    ∙ ap (entered p (record { line = n; fields = c.fields; steps = c.steps })) done ∙ ap Ok (sym (panel_push xs cs c))
     )

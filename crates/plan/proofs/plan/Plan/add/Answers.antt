@@ -1,6 +1,6 @@
-use Rattle.std.proofs.Common.{◌≡◌, refl}
+use Rattle.std.proofs.Common.{◌≡◌, Ok, Err, refl}
 use Rattle.std.proofs.lemmas.Result.{err_from_is_err_and}
-use Rattle.law.specs.declared.answers.Answer.TheVariants.{Done, Refused}
+use Rattle.law.specs.declared.answers.Reply.TheVariants.{Done}
 use Rattle.law.specs.declared.answers.Refusal.TheVariants.{Field}
 use Rattle.law.specs.Runs.{add_answer}
 use Rattle.plan.specs.Contents.{chains_of, contents, Appended}
@@ -24,7 +24,7 @@ returns-in_err-check_room g c =
     let steps = c.args.steps.now in
     let why = c.in_err-check_room.field-0.0 in
     let e = err_from_is_err_and c.from_residual-in_err-check_room.result c.from_residual-in_err-check_room.ensures.1 in
-    let value = room_refused (chains_of p.table) c.args.chain steps (Refused why) c.in_ok-check_steps.ensures (rw c.fields-fields.ensures at c.in_err-check_room.ensures) in
+    let value = room_refused (chains_of p.table) c.args.chain steps (Err why) c.in_ok-check_steps.ensures (rw c.fields-fields.ensures at c.in_err-check_room.ensures) in
     let made = add_refused (g.R.NodeRule.answer p.rule) (contents p.table) c.args.chain steps why value in
     rw (e.1, e.2) (record { rule = refl; value = made.value; after = refl; run = made.run })
 
@@ -34,7 +34,7 @@ append-requires g c =
     let t = p.table in
     let room : Room t = record { rows = p.rows_room; few = p.few_rows; counted = p.rows_counted } in
     let steps = c.args.steps.now in
-    let done : Done ≡ add_answer (chains_of t) c.args.chain steps = room_refused (chains_of t) c.args.chain steps Done c.in_ok-check_steps.ensures (rw c.fields-fields.ensures at c.in_ok-check_room.ensures) in
+    let done : Ok Done ≡ add_answer (chains_of t) c.args.chain steps = room_refused (chains_of t) c.args.chain steps (Ok Done) c.in_ok-check_steps.ensures (rw c.fields-fields.ensures at c.in_ok-check_room.ensures) in
     let test = tested room p.entries_room p.few_chains c.args.chain steps done in
     record { whole = record { entries = p.entries_room; rows = p.rows_room; responses = p.responses_room }; chains = test.chains; rows = test.rows }
 
@@ -44,7 +44,7 @@ invariant_of-self g c =
     let t = p.table in
     let room : Room t = record { rows = p.rows_room; few = p.few_rows; counted = p.rows_counted } in
     let steps = c.args.steps.now in
-    let done : Done ≡ add_answer (chains_of t) c.args.chain steps = room_refused (chains_of t) c.args.chain steps Done c.in_ok-check_steps.ensures (rw c.fields-fields.ensures at c.in_ok-check_room.ensures) in
+    let done : Ok Done ≡ add_answer (chains_of t) c.args.chain steps = room_refused (chains_of t) c.args.chain steps (Ok Done) c.in_ok-check_steps.ensures (rw c.fields-fields.ensures at c.in_ok-check_room.ensures) in
     let test = tested room p.entries_room p.few_chains c.args.chain steps done in
     let appended : Appended t c.args.chain.fields steps c.append.new.self = rw c.fields-fields.ensures at c.append.ensures in
     let before : Sound t =
@@ -59,7 +59,7 @@ returns g c =
     let t = p.table in
     let room : Room t = record { rows = p.rows_room; few = p.few_rows; counted = p.rows_counted } in
     let steps = c.args.steps.now in
-    let done : Done ≡ add_answer (chains_of t) c.args.chain steps = room_refused (chains_of t) c.args.chain steps Done c.in_ok-check_steps.ensures (rw c.fields-fields.ensures at c.in_ok-check_room.ensures) in
+    let done : Ok Done ≡ add_answer (chains_of t) c.args.chain steps = room_refused (chains_of t) c.args.chain steps (Ok Done) c.in_ok-check_steps.ensures (rw c.fields-fields.ensures at c.in_ok-check_room.ensures) in
     let appended : Appended t c.args.chain.fields steps c.append.new.self = rw c.fields-fields.ensures at c.append.ensures in
     let made = add_accepted room c.args.chain steps appended (g.R.NodeRule.answer p.rule) done in
     record { rule = refl; value = made.value; after = contents_added room c.args.chain steps appended; run = made.run }

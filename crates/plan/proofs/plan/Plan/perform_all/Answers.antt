@@ -1,4 +1,4 @@
-use Rattle.std.proofs.Common.{◌≡◌, ℕ, ◌+◌, ◌<◌, List, [], ◌∷◌, ◌++◌, map, length, get_or, take, sym, refl, ap, ◌∙◌, subst, arith}
+use Rattle.std.proofs.Common.{◌≡◌, ℕ, ◌+◌, ◌<◌, List, [], ◌∷◌, ◌++◌, map, length, get_or, take, sym, refl, ap, ◌∙◌, subst, arith, take_all, length-take-le}
 use Rattle.std.proofs.lemmas.List.{take_more, map-append}
 use Rattle.rules.specs.Rules.{Meaning}
 use Rattle.law.specs.State.{call_answer, call_after, Keeps}
@@ -20,22 +20,26 @@ loop-k-preserved g c =
     let p = c.args.self.now in
     let means = ap g.R.NodeRule.answer c.loop-k.invariant.0 in
     let before = contents c.loop-k.self.table in
-    let call = c.index-calls-k.result in
+    let call = c.call-item.result in
     let k = c.loop-k.k in
-    let inside : k < length c.args.answers.now = omega arith in
-    let within : k < length c.args.calls.now = omega arith in
+    let calls = take c.min-count.result c.args.calls.now in
+    let length_calls = length-take-le c.min-count.result c.args.calls.now (omega arith) in
+    let inside : k < length c.args.answers.now = omega (arith, c.loop-k-test.true) in
     let made =
-    made_more (g.R.NodeRule.answer p.rule) (contents p.table) (map meant (take k c.args.calls.now)) k c.args.answers.now c.loop-k.answers
+    made_more (g.R.NodeRule.answer p.rule) (contents p.table) (map meant (take k calls)) k c.args.answers.now c.loop-k.answers
     before (contents c.perform.new.self.table) (meant call) c.perform.result inside c.loop-k.invariant.1
     (c.perform.ensures.value ∙ ap (λ (m : Meaning). call_answer m before (meant call)) means)
     (c.perform.ensures.after ∙ ap (λ (m : Meaning). call_after m before (meant call)) means)
     (subst (λ (m : Meaning). Keeps m before (meant call) c.perform.result (contents c.perform.new.self.table)) means c.perform.ensures.run) in
-    (c.perform.ensures.rule ∙ c.loop-k.invariant.0, rw (meant_more c.args.calls.now k call within c.index-calls-k.is) made)
+    (c.perform.ensures.rule ∙ c.loop-k.invariant.0, rw (meant_more calls k call c.loop-k-test.true c.call-item.is) made)
 
 pub returns : goal.returns
 returns g c =
-    let end : c.loop-k.k ≡ c.min-count.result = omega arith in
-    let made = rw end at c.loop-k.invariant.1 in
+    let count = c.min-count.result in
+    let calls = take count c.args.calls.now in
+    let length_calls = length-take-le count c.args.calls.now (omega arith) in
+    let end : c.loop-k.k ≡ count = omega arith in
+    let made = rw (end, take_all count calls (omega arith)) at c.loop-k.invariant.1 in
     record {
       rule = c.loop-k.invariant.0;
       count = c.min-count.ensures;

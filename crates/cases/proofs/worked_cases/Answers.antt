@@ -1,5 +1,0 @@
-use Rattle.cases.proofs.Computed.{computed}
-use Rattle.cases.proofs.worked_cases.Goals as goal
-
-pub returns : goal.returns
-returns c = computed
