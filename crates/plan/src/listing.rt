@@ -6,19 +6,7 @@ ghost use Rattle.plan.specs.Listing.{row_fields, rows_bytes, listing_bytes, list
 
 use crate::plan::Plan;
 use law::Refusal;
-use writing::{line_len, put_line};
-
-// Where there is room, a line from `at` on.
-fn write_line(buffer: &mut [u8], at: usize, word: &[u8], fields: &[u32]) -> usize
-    requires { at + length (line_bytes word.now fields.now) ≤ length buffer.old }
-    ensures value { result ≡ at + length (line_bytes word.now fields.now) }
-    ensures after { buffer.new ≡ put_at buffer.old at (line_bytes word.now fields.now) }
-{
-    match put_line(buffer, at, word, fields) {
-        Some(end) => end,
-        None => unreachable(),
-    }
-}
+use writing::{Line, Text};
 
 impl<R> Plan<R> {
     // The numbers of a row's line.
@@ -38,7 +26,11 @@ impl<R> Plan<R> {
     {
         let mut len: usize = 0;
         for row in 0..self.table.row_count {
-            len = len.saturating_add(line_len(b"step", &self.row_line(row)));
+            let line = Line {
+                word: b"step",
+                fields: &self.row_line(row),
+            };
+            len = len.saturating_add(line.len());
         }
         len
     }
@@ -51,7 +43,11 @@ impl<R> Plan<R> {
     {
         let mut end = at;
         for row in 0..self.table.row_count {
-            end = write_line(buffer, end, b"step", &self.row_line(row));
+            let line = Line {
+                word: b"step",
+                fields: &self.row_line(row),
+            };
+            end = line.write(buffer, end);
         }
         end
     }
@@ -60,7 +56,11 @@ impl<R> Plan<R> {
     fn listing_len(&self, rounds: u32) -> usize
         ensures { result ≡ min (length (listing_bytes (contents self.now.table) rounds)) (2 ^ 64 - 1) }
     {
-        line_len(b"rounds", &[rounds]).saturating_add(self.rows_len())
+        let heading = Line {
+            word: b"rounds",
+            fields: &[rounds],
+        };
+        heading.len().saturating_add(self.rows_len())
     }
 
     // Where there is room, the listing.
@@ -69,7 +69,11 @@ impl<R> Plan<R> {
         ensures value { result ≡ length (listing_bytes (contents self.now.table) rounds) }
         ensures after { buffer.new ≡ put_at buffer.old 0 (listing_bytes (contents self.now.table) rounds) }
     {
-        let first = write_line(buffer, 0, b"rounds", &[rounds]);
+        let heading = Line {
+            word: b"rounds",
+            fields: &[rounds],
+        };
+        let first = heading.write(buffer, 0);
         self.write_rows(buffer, first)
     }
 

@@ -5,7 +5,7 @@ ghost use Rattle.report.specs.Reports.{fault_bytes, nothing_bytes, write_answer}
 
 use law::Refusal;
 use lines::TableFault;
-use writing::put_line;
+use writing::{Line, put};
 
 const WORD: &[u8] = b"refused";
 
@@ -15,8 +15,11 @@ pub fn write_fault(fault: &TableFault, buffer: &mut [u8]) -> Result<usize, Refus
     ensures value { result ≡ write_answer buffer.old (fault_bytes fault.now) }
     ensures after { buffer.new ≡ after_write buffer.old 0 (fault_bytes fault.now) }
 {
-    let fields = [fault.fault.number(), fault.line, fault.field];
-    put_line(buffer, 0, WORD, &fields).ok_or(Refusal::BufferShort)
+    let line = Line {
+        word: WORD,
+        fields: &[fault.fault.number(), fault.line, fault.field],
+    };
+    put(buffer, 0, &line).ok_or(Refusal::BufferShort)
 }
 
 // Writes `refused,10,` with the rounds made to the front of the buffer, and answers how many bytes these are, or 20.
@@ -25,5 +28,9 @@ pub fn write_nothing_carries(rounds: u32, buffer: &mut [u8]) -> Result<usize, Re
     ensures value { result ≡ write_answer buffer.old (nothing_bytes rounds) }
     ensures after { buffer.new ≡ after_write buffer.old 0 (nothing_bytes rounds) }
 {
-    put_line(buffer, 0, WORD, &[10, rounds]).ok_or(Refusal::BufferShort)
+    let line = Line {
+        word: WORD,
+        fields: &[10, rounds],
+    };
+    put(buffer, 0, &line).ok_or(Refusal::BufferShort)
 }

@@ -1,5 +1,6 @@
 -- Bytes in a buffer from a place on. Assumes nothing.
 use Rattle.std.specs.Prelude.{ℕ, ◌+◌, Bool, cond, List, [], ◌∷◌, ◌++◌, length, take, drop, Some, None, decimal, Option, nat_le}
+use Rattle.std.specs.List.{flat_map}
 
 -- the buffer with these bytes from a place on, and all else as it was
 abbrev pub put_at : List ℕ → ℕ → List ℕ → List ℕ
@@ -18,11 +19,10 @@ after_write buffer at bytes = cond (has_room buffer at bytes) (put_at buffer at 
 
 -- ## Lines
 
--- each number behind a comma
-abbrev pub fields_bytes : List ℕ → List ℕ
-fields_bytes [] = []
-fields_bytes (n ∷ ns) = (44 ∷ decimal n) ++ fields_bytes ns
+-- a comma and a number
+abbrev pub field_bytes : ℕ → List ℕ
+field_bytes n = 44 ∷ decimal n
 
--- a word, the numbers behind it, and a line feed
+-- a word, the numbers behind it, each behind a comma, and a line feed
 unfoldable pub line_bytes : List ℕ → List ℕ → List ℕ
-line_bytes word fields = word ++ (fields_bytes fields ++ 10 ∷ [])
+line_bytes word fields = word ++ flat_map field_bytes fields ++ 10 ∷ []

@@ -9,4 +9,4 @@ returns g c =
     let p = c.args.self.now in
     let room : Room p.table = record { rows = p.rows_room; few = p.few_rows; counted = p.rows_counted } in
     let l = length_listing (contents p.table) c.args.rounds p.table.row_count (length_rows_held room) in
-    omega (arith, c.rows_len.ensures, c.line_len.ensures)
+    omega (arith, c.rows_len.ensures, c.len.ensures)

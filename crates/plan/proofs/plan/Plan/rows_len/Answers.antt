@@ -12,7 +12,7 @@ pub loop-row-preserved : goal.loop-row-preserved
 loop-row-preserved g c =
     let more = length_rows_more (contents c.args.self.now.table) c.loop-row.row in
     let line = ap (λ ns. length (line_bytes (codes "step") ns)) c.row_line.ensures in
-    omega (arith, c.loop-row.invariant, c.line_len.ensures)
+    omega (arith, c.loop-row.invariant, c.len.ensures)
 
 pub returns : goal.returns
 returns g c =

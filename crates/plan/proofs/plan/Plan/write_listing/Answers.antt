@@ -7,8 +7,8 @@ use Rattle.plan.proofs.Listed.{listing_is, length_listing}
 use Rattle.plan.proofs.Memory.{Room, length_rows_held}
 use Rattle.plan.proofs.plan.Plan.write_listing.Goals as goal
 
-pub write_line-first-requires : goal.write_line-first-requires
-write_line-first-requires g c =
+pub write-first-requires : goal.write-first-requires
+write-first-requires g c =
     let p = c.args.self.now in
     let room : Room p.table = record { rows = p.rows_room; few = p.few_rows; counted = p.rows_counted } in
     let l = length_listing (contents p.table) c.args.rounds p.table.row_count (length_rows_held room) in
@@ -20,8 +20,8 @@ write_rows-requires g c =
     let room : Room p.table = record { rows = p.rows_room; few = p.few_rows; counted = p.rows_counted } in
     let l = length_listing (contents p.table) c.args.rounds p.table.row_count (length_rows_held room) in
     let same = length_put c.args.buffer.now 0 (line_bytes (codes "rounds") (c.args.rounds ∷ [])) (omega (arith, c.requires)) in
-    let now = ap length c.write_line-first.ensures.after in
-    omega (arith, c.requires, c.write_line-first.ensures.value)
+    let now = ap length c.write-first.ensures.after in
+    omega (arith, c.requires, c.write-first.ensures.value)
 
 pub returns : goal.returns
 returns g c =
@@ -33,6 +33,6 @@ returns g c =
     let first = line_bytes (codes "rounds") (c.args.rounds ∷ []) in
     let put = put_put b 0 first (rows_bytes s p.table.row_count) (omega arith) in
     record {
-      value = omega (arith, c.write_rows.ensures.value, c.write_line-first.ensures.value);
-      after = c.write_rows.ensures.after ∙ rw (c.write_line-first.ensures.after, c.write_line-first.ensures.value) put ∙ ap (put_at b 0) (sym (listing_is s c.args.rounds p.table.row_count (length_rows_held room)));
+      value = omega (arith, c.write_rows.ensures.value, c.write-first.ensures.value);
+      after = c.write_rows.ensures.after ∙ rw (c.write-first.ensures.after, c.write-first.ensures.value) put ∙ ap (put_at b 0) (sym (listing_is s c.args.rounds p.table.row_count (length_rows_held room)));
     }

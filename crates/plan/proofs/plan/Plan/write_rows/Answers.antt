@@ -9,8 +9,8 @@ use Rattle.plan.proofs.plan.Plan.write_rows.Goals as goal
 pub loop-row-init : goal.loop-row-init
 loop-row-init g c = rw (rows_none (contents c.args.self.now.table)) (sym (add-zero c.args.at), sym (put_none c.args.buffer.now c.args.at))
 
-pub write_line-end-requires : goal.write_line-end-requires
-write_line-end-requires g c =
+pub write-end-requires : goal.write-end-requires
+write-end-requires g c =
     let s = contents c.args.self.now.table in
     let k = c.loop-row.row in
     let more = length_rows_more s k in
@@ -32,8 +32,8 @@ loop-row-preserved g c =
     let size = ap length line in
     let inside : at ≤ length b = omega (arith, c.requires) in
     let put = put_put b at (rows_bytes s k) (row_line (chains_of t) (responses_of t) k) inside in (
-      omega (arith, c.write_line-end.ensures.value, c.loop-row.invariant.0),
-      c.write_line-end.ensures.after ∙ rw (line, c.loop-row.invariant.1, c.loop-row.invariant.0) put ∙ ap (put_at b at) (sym (rows_more s k)),
+      omega (arith, c.write-end.ensures.value, c.loop-row.invariant.0),
+      c.write-end.ensures.after ∙ rw (line, c.loop-row.invariant.1, c.loop-row.invariant.0) put ∙ ap (put_at b at) (sym (rows_more s k)),
     )
 
 pub returns : goal.returns
