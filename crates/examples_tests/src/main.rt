@@ -12,10 +12,8 @@ fn is_as_expected(rt: &HostRuntime, name: &str) -> anyhow::Result<bool> {
     let table = fs::read(rt, format!(in alloc; "{name}.csv")?.as_str())?;
     let expected = fs::read(rt, format!(in alloc; "{name}.out")?.as_str())?;
     let mut buffer = [0; 4096];
-    match report(table.as_slice(), &mut buffer) {
-        Ok(told) => Ok(&buffer[0..told.len.min(4096)] == expected.as_slice()),
-        Err(_) => Ok(false),
-    }
+    Ok(report(table.as_slice(), &mut buffer).is_ok_and(|told| &buffer[..told.len.min(4096)]
+        == expected.as_slice()))
 }
 
 fn main(rt: HostRuntime) -> anyhow::Result<()> {

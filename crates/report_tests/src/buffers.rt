@@ -14,9 +14,9 @@ const EMPTY_DELAY: TableFault = TableFault {
 fn rest_of_the_buffer_stays(rt: HostRuntime) {
     let mut buffer = [b'.'; 18];
     assert_eq!(rt; write_fault(&EMPTY_DELAY, &mut buffer), Ok(15));
-    assert!(rt; &buffer == b"refused,15,4,5\n...");
+    assert_eq!(rt; &buffer, b"refused,15,4,5\n...");
     assert_eq!(rt; write_nothing_carries(12, &mut buffer), Ok(14));
-    assert!(rt; &buffer == b"refused,10,12\n\n...");
+    assert_eq!(rt; &buffer, b"refused,10,12\n\n...");
 }
 
 #[test]
@@ -26,12 +26,12 @@ fn line_that_does_not_fit_is_not_begun(rt: HostRuntime) {
         write_fault(&EMPTY_DELAY, &mut buffer),
         Err(Refusal::BufferShort)
     );
-    assert!(rt; &buffer == b"..............");
+    assert_eq!(rt; &buffer, b"..............");
     assert_eq!(rt;
         write_nothing_carries(123, &mut buffer),
         Err(Refusal::BufferShort)
     );
-    assert!(rt; &buffer == b"..............");
+    assert_eq!(rt; &buffer, b"..............");
     assert_eq!(rt; write_nothing_carries(12, &mut buffer), Ok(14));
 }
 
@@ -39,7 +39,7 @@ fn line_that_does_not_fit_is_not_begun(rt: HostRuntime) {
 fn report_that_does_not_fit_is_not_begun(rt: HostRuntime) {
     let mut short = [b'.'; 62];
     assert_eq!(rt; report(WORKED, &mut short), Err(Refusal::BufferShort));
-    assert!(rt; short == [b'.'; 62]);
+    assert_eq!(rt; short, [b'.'; 62]);
     let mut buffer = [b'.'; 63];
     assert_eq!(rt;
         report(WORKED, &mut buffer),
@@ -54,5 +54,5 @@ fn report_that_does_not_fit_is_not_begun(rt: HostRuntime) {
 fn refused_report_that_does_not_fit(rt: HostRuntime) {
     let mut buffer = [b'.'; 4];
     assert_eq!(rt; report(b"x\n", &mut buffer), Err(Refusal::BufferShort));
-    assert!(rt; &buffer == b"....");
+    assert_eq!(rt; &buffer, b"....");
 }

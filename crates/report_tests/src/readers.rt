@@ -19,15 +19,14 @@ fn fault_leaves_the_plan_empty(rt: HostRuntime) -> Result<(), Fail> {
     let mut reader = Reader::new();
     reader.read(WORKED)?;
     assert_eq!(rt; reader.plan.solve()?, 3);
-    match reader.read(b"node,1,E\nchain,1,10,10,0\nstep,1,1,5,0,0,1\nchain,2,x,10,0\n") {
-        Ok(()) => Err(Fail::new("taken")),
-        Err(why) => {
-            assert_eq!(rt; why.fault.number(), 16);
-            assert_eq!(rt; why.line, 4);
-            assert!(rt; reader.plan.ask(7, 1).is_err());
-            assert!(rt; reader.plan.ask(1, 1).is_err());
-            assert_eq!(rt; reader.plan.solve()?, 1);
-            Ok(())
-        }
-    }
+    let text = b"node,1,E\nchain,1,10,10,0\nstep,1,1,5,0,0,1\nchain,2,x,10,0\n";
+    let Err(why) = reader.read(text) else {
+        return Err(Fail::new("taken"));
+    };
+    assert_eq!(rt; why.fault.number(), 16);
+    assert_eq!(rt; why.line, 4);
+    assert!(rt; reader.plan.ask(7, 1).is_err());
+    assert!(rt; reader.plan.ask(1, 1).is_err());
+    assert_eq!(rt; reader.plan.solve()?, 1);
+    Ok(())
 }

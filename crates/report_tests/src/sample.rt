@@ -10,13 +10,9 @@ pub const WORKED: &[u8] =
 // The report on a text is these bytes.
 pub fn says(rt: &impl Abort, text: &[u8], expected: &[u8]) -> Result<(), Fail> {
     let mut buffer = [0; 2048];
-    match report(text, &mut buffer) {
-        Ok(told) => {
-            assert!(rt; &buffer[0..told.len.min(2048)] == expected);
-            Ok(())
-        }
-        Err(_) => Err(Fail::new("the buffer is too short")),
-    }
+    let told = report(text, &mut buffer)?;
+    assert_eq!(rt; &buffer[..told.len.min(2048)], expected);
+    Ok(())
 }
 
 // A chain of this id, with so many steps on node 1.
@@ -32,8 +28,8 @@ pub fn put_chain(text: &mut String, alloc: Global, id: u32, steps: u32) -> Resul
 // One node, and chains of so many steps each, with ids from 1 on.
 pub fn panel(alloc: Global, chains: u32, steps: u32) -> Result<String, AllocError> {
     let mut text = String::from_str(alloc, "node,1,E\n")?;
-    for id in 0..chains {
-        put_chain(&mut text, alloc, id.saturating_add(1), steps)?;
+    for id in 1..=chains {
+        put_chain(&mut text, alloc, id, steps)?;
     }
     Ok(text)
 }
