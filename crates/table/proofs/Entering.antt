@@ -1,5 +1,5 @@
 -- One chain more of a plan.
-use Rattle.std.proofs.Common.{◌≡◌, ℕ, List, [], ◌∷◌, ◌++◌, length, replicate, None, sym, ap, ◌∙◌, subst}
+use Rattle.std.proofs.Common.{◌≡◌, ℕ, List, [], ◌∷◌, ◌++◌, length, replicate, None, Ok, sym, ap, ◌∙◌, subst}
 use lib.ListN.{length-map, replicate-append-replicate}
 use Rattle.std.proofs.lemmas.List.{append-nil}
 use Rattle.records.specs.declared.fields.StepFields.{StepFields}
