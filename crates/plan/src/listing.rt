@@ -28,9 +28,8 @@ impl<R> Plan<R> {
     {
         let place = self.place(row);
         let step = place.step as u32 + 1;
-        let responses = self.table.responses.as_slice();
-        let jitter = self.jitter(row, responses);
-        [place.chain.id, step, jitter, responses[row]]
+        let kept = self.kept();
+        [place.chain.id, step, kept.jitter(row), kept.responses[row]]
     }
 
     // How many bytes the lines of the rows take; the largest usize stands for anything that a usize cannot hold.

@@ -3,8 +3,8 @@ use Rattle.records.proofs.InRange.{chain_in_range}
 use Rattle.rules.specs.Rules.{row, no_row}
 use Rattle.plan.proofs.Places.{place_small, before}
 use Rattle.plan.proofs.Timing.{delay_small, fitting, response_small, jitter_is, first_before, later_before}
-use Rattle.plan.proofs.plan.Plan.jitter.Goals as goal
-use Rattle.plan.proofs.plan.Plan.jitter.Goals.{then-place-eq0, else-place-eq0}
+use Rattle.plan.proofs.round.Assignment.jitter.Goals as goal
+use Rattle.plan.proofs.round.Assignment.jitter.Goals.{then-place-eq0, else-place-eq0}
 
 pub overflow_sub-before : goal.overflow_sub-before
 overflow_sub-before g c =
@@ -14,26 +14,26 @@ overflow_sub-before g c =
 pub overflow_add-result : goal.overflow_add-result
 unfolding no_row
 overflow_add-result g c =
-    let p = c.args.self.now in
-    let fits = fitting p.table c.args.responses.now c.requires.small in
-    let delay = delay_small p.table.entries.items p.table.rows p.rows_counted c.args.row c.requires.inside p.rows_fit in
+    let p = c.args.self.now.plan.now in
+    let fits = fitting p.table c.args.self.now.responses.now c.args.self.now.fit in
+    let delay = delay_small p.table.entries.items p.table.rows p.rows_counted c.args.row c.requires p.rows_fit in
     let read = ap (λ rows. (row rows c.args.row).step.delay) c.as_slice.ensures in
     let arrival = (chain_in_range c.place-place.result.chain c.place-place.ensures.fits).arrival in
-    let last : c.args.row - 1 < length c.args.responses.now = omega (arith, c.requires.inside, fits.one_each) in
-    let response = response_small c.args.responses.now (c.args.row - 1) fits.small last in
+    let last : c.args.row - 1 < length c.args.self.now.responses.now = omega (arith, c.requires, fits.one_each) in
+    let response = response_small c.args.self.now.responses.now (c.args.row - 1) fits.small last in
     elim c.if-place-eq0.branch [ then-place-eq0 w ↦ omega (arith, w.before-is) | else-place-eq0 w ↦ omega (arith, w.before-is) ]
 
 pub returns : goal.returns
 unfolding no_row
 returns g c =
-    let p = c.args.self.now in
+    let p = c.args.self.now.plan.now in
     let place = c.place-place.result in
-    let xs = c.args.responses.now in
+    let xs = c.args.self.now.responses.now in
     let is : c.if-place-eq0.before ≡ before place.chain.arrival_jitter xs c.args.row place.step =
     elim c.if-place-eq0.branch [
       | then-place-eq0 w ↦ w.before-is ∙ first_before _ xs c.args.row place.step w.if-place-eq0.true
       | else-place-eq0 w ↦ w.before-is ∙ later_before _ xs c.args.row place.step w.if-place-eq0.false
     ] in
-    let fits = fitting p.table xs c.requires.small in
+    let fits = fitting p.table xs c.args.self.now.fit in
     ap (λ rows. c.if-place-eq0.before + (row rows c.args.row).step.delay) c.as_slice.ensures
-    ∙ jitter_is p.table.entries.items p.table.rows p.rows_counted c.args.row c.requires.inside xs fits.one_each place c.if-place-eq0.before c.place-place.ensures.value is
+    ∙ jitter_is p.table.entries.items p.table.rows p.rows_counted c.args.row c.requires xs fits.one_each place c.if-place-eq0.before c.place-place.ensures.value is
