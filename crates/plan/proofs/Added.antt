@@ -20,7 +20,7 @@ use Rattle.law.proofs.Chains.{Fits}
 use Rattle.law.proofs.RunLaw.{add_done, rows_fit}
 use Rattle.law.proofs.Steps.{add_keeps, add_refused_keeps}
 use Rattle.plan.specs.declared.table.Table.{Table}
-use Rattle.plan.specs.Contents.{chains_of, contents, steps_in, entry_fits, response_fits, responses_fit_in, appended}
+use Rattle.plan.specs.Contents.{chains_of, contents, steps_in, entry_fits, response_fits, appended}
 use Rattle.plan.proofs.Memory.{rows_are, length_chains, chains_push, steps_push}
 use Rattle.plan.proofs.Solving.{zeros_pass, Sound}
 use Rattle.plan.proofs.Timing.{fitting, fits_in}

@@ -1,5 +1,5 @@
 -- What a plan holds, read off its memory. Assumes nothing.
-use Rattle.std.specs.Prelude.{◌≡◌, ℕ, ◌+◌, ◌-◌, Bool, cond, List, [], ◌∷◌, ◌++◌, ◌&&◌, map, length, take, drop, replicate, remove, Some, None, Ok, Err, Option, Result, ◌==◌, nat_le, nat_lt}
+use Rattle.std.specs.Prelude.{ℕ, ◌+◌, ◌-◌, Bool, cond, List, [], ◌∷◌, ◌++◌, ◌&&◌, map, length, take, drop, replicate, remove, Some, None, Ok, Err, Option, Result, ◌==◌, nat_le, nat_lt}
 use Rattle.std.specs.List.{remove_range}
 use Rattle.std.specs.Option.{option_map}
 use Rattle.records.specs.declared.fields.ChainFields.{ChainFields}

@@ -1,4 +1,4 @@
-use Rattle.std.proofs.Common.{◌≡◌, ◌<◌, ◌≤◌, length, sym, arith}
+use Rattle.std.proofs.Common.{length, sym, arith}
 use Rattle.std.proofs.lemmas.Bool.{eqb-true, eqb-false}
 use Rattle.plan.proofs.Adding.{chains_full, steps_full, id_held, room_done}
 use Rattle.plan.proofs.plan.Plan.check_room.Goals as goal

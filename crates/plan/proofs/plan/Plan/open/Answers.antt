@@ -1,4 +1,4 @@
-use Rattle.std.proofs.Common.{[], Some, None, subst, sym}
+use Rattle.std.proofs.Common.{[], None, subst, sym}
 use Rattle.law.specs.State.{Leads}
 use Rattle.law.proofs.Steps.{new_leads}
 use Rattle.plan.specs.Contents.{chains_from}

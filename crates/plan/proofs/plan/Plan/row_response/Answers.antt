@@ -1,5 +1,4 @@
 use Rattle.std.proofs.Common.{rules, refl, ◌∙◌}
-use Rattle.law.specs.State.{kept_within}
 use Rattle.plan.specs.Contents.{chains_of}
 use Rattle.plan.proofs.Memory.{rows_are}
 use Rattle.plan.proofs.Places.{deadline_at}

@@ -1,7 +1,6 @@
-use Rattle.std.proofs.Common.{◌≡◌, length, codes, ap, arith}
+use Rattle.std.proofs.Common.{length, codes, ap, arith}
 use Rattle.writing.specs.Writing.{line_bytes}
 use Rattle.plan.specs.Contents.{contents}
-use Rattle.plan.specs.Listing.{rows_bytes}
 use Rattle.plan.proofs.Listed.{rows_none, length_rows_more}
 use Rattle.plan.proofs.plan.Plan.rows_len.Goals as goal
 
@@ -13,10 +12,3 @@ loop-row-preserved g c =
     let more = length_rows_more (contents c.args.self.now.table) c.loop-row.row in
     let line = ap (λ ns. length (line_bytes (codes "step") ns)) c.row_line.ensures in
     omega (arith, c.loop-row.invariant, c.line_len.ensures)
-
-pub returns : goal.returns
-returns g c =
-    let t = c.args.self.now.table in
-    let end : c.loop-row.row ≡ length t.rows = omega arith in
-    let all = ap (λ n. length (rows_bytes (contents t) n)) end in
-    omega (arith, c.loop-row.invariant)

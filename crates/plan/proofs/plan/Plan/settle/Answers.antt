@@ -1,5 +1,5 @@
-use Rattle.std.proofs.Common.{◌+◌, ◌-◌, ◌≤◌, sym, ap, ◌∙◌, arith}
-use Rattle.law.specs.State.{rounds_from, round, same}
+use Rattle.std.proofs.Common.{◌+◌, ◌-◌, sym, ap, ◌∙◌, arith}
+use Rattle.law.specs.State.{rounds_from}
 use Rattle.law.proofs.Turns.{turns_end}
 use Rattle.plan.specs.Contents.{chains_of}
 use Rattle.plan.proofs.Solving.{round_refuses, round_settles, round_goes_on, equal_same}

@@ -1,4 +1,4 @@
-use Rattle.std.proofs.Common.{◌≡◌, ◌+◌, ◌≤◌, length, codes, sym, ap, ◌∙◌, add-zero, arith}
+use Rattle.std.proofs.Common.{◌+◌, ◌≤◌, length, codes, sym, ap, ◌∙◌, add-zero, arith}
 use Rattle.writing.specs.Writing.{put_at, line_bytes}
 use Rattle.writing.proofs.Placed.{put_put, put_none, length_put}
 use Rattle.plan.specs.Contents.{chains_of, contents}
@@ -35,9 +35,3 @@ loop-row-preserved g c =
       omega (arith, c.write_line-end.ensures.value, c.loop-row.invariant.0),
       c.write_line-end.ensures.after ∙ rw (line, c.loop-row.invariant.1, c.loop-row.invariant.0) put ∙ ap (put_at b at) (sym (rows_more s k)),
     )
-
-pub returns : goal.returns
-returns g c =
-    let t = c.args.self.now.table in
-    let end : c.loop-row.row ≡ length t.rows = omega arith in
-    record { value = rw end at c.loop-row.invariant.0; after = rw end at c.loop-row.invariant.1 }

@@ -1,8 +1,7 @@
-use Rattle.std.proofs.Common.{◌≡◌, ◌+◌, ◌-◌, ◌<◌, length, ap, ◌∙◌, arith}
-use Rattle.records.proofs.InRange.{chain_in_range}
+use Rattle.std.proofs.Common.{◌≡◌, ◌+◌, ap, ◌∙◌, arith}
 use Rattle.rules.specs.Rules.{row, no_row}
 use Rattle.plan.proofs.Places.{place_small, before}
-use Rattle.plan.proofs.Timing.{delay_small, fitting, response_small, jitter_is, first_before, later_before}
+use Rattle.plan.proofs.Timing.{fitting, jitter_is, first_before, later_before}
 use Rattle.plan.proofs.round.Assignment.jitter.Goals as goal
 use Rattle.plan.proofs.round.Assignment.jitter.Goals.{then-place-eq0, else-place-eq0}
 
@@ -10,18 +9,6 @@ pub overflow_sub-before : goal.overflow_sub-before
 overflow_sub-before g c =
     let s = place_small _ c.args.row c.place-place.result c.place-place.ensures.value in
     omega (arith, c.if-place-eq0.false)
-
-pub overflow_add-result : goal.overflow_add-result
-unfolding no_row
-overflow_add-result g c =
-    let p = c.args.self.now.plan.now in
-    let fits = fitting p.table c.args.self.now.responses.now c.args.self.now.fit in
-    let delay = delay_small p.table.entries.items p.table.rows p.rows_counted c.args.row c.requires p.rows_fit in
-    let read = ap (λ rows. (row rows c.args.row).step.delay) c.as_slice.ensures in
-    let arrival = (chain_in_range c.place-place.result.chain c.place-place.ensures.fits).arrival in
-    let last : c.args.row - 1 < length c.args.self.now.responses.now = omega (arith, c.requires, fits.one_each) in
-    let response = response_small c.args.self.now.responses.now (c.args.row - 1) fits.small last in
-    elim c.if-place-eq0.branch [ then-place-eq0 w ↦ omega (arith, w.before-is) | else-place-eq0 w ↦ omega (arith, w.before-is) ]
 
 pub returns : goal.returns
 unfolding no_row

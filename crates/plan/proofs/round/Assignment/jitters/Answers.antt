@@ -1,4 +1,4 @@
-use Rattle.std.proofs.Common.{◌<◌, length, sym, ap, ◌∙◌, ◌∷◌, [], ◌++◌, arith, take_all}
+use Rattle.std.proofs.Common.{◌<◌, length, sym, ap, ◌∙◌, arith, take_all}
 use Rattle.std.proofs.lemmas.List.{take_more}
 use Rattle.law.specs.Assignments.{jitters_of}
 use Rattle.law.proofs.Chains.{length_jitters}

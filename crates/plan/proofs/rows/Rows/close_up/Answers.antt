@@ -1,4 +1,4 @@
-use Rattle.std.proofs.Common.{◌+◌, ◌-◌, length, take, ap, ◌∙◌, sym, arith, length-take}
+use Rattle.std.proofs.Common.{◌+◌, ◌-◌, length, take, ap, ◌∙◌, arith, length-take}
 use Rattle.std.specs.List.{remove_range}
 use Rattle.plan.proofs.Closing.{closed_up}
 use Rattle.plan.proofs.rows.Rows.close_up.Goals as goal
