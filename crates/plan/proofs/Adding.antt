@@ -1,37 +1,20 @@
 -- A chain more: the rows written one by one, and what the plan then holds.
-use Rattle.std.proofs.Common.{◌≡◌, ℕ, ◌+◌, ◌<◌, ◌≤◌, Bool, true, false, cond, List, [], ◌∷◌, ◌++◌, map, length, get_or, drop, replicate, is_some, Some, None, Option, Ok, Err, sym, refl, ap, ◌∙◌, arith}
-use Rattle.std.proofs.lemmas.List.{append_assoc, at_drop_more}
+use Rattle.std.proofs.Common.{◌≡◌, ℕ, ◌+◌, ◌<◌, ◌≤◌, Bool, true, false, cond, List, ◌∷◌, length, get_or, drop, is_some, Some, None, Option, Ok, Err, sym, refl, ap, ◌∙◌, arith}
+use Rattle.std.proofs.lemmas.List.{at_drop_more}
 use Rattle.std.proofs.lemmas.Bool.{le-leb, lt-leb}
 use Rattle.records.specs.declared.fields.StepFields.{StepFields}
 use Rattle.records.specs.Ranges.{bad_step_field}
 use Rattle.law.specs.declared.answers.Reply.TheVariants.{Done}
 use Rattle.law.specs.declared.answers.Refusal.TheVariants.{ChainsFull, StepsFull, IdHeld}
 use Rattle.law.specs.Assignments.{Held, rows_of}
-use Rattle.law.specs.Runs.{row_of, holds, first_row, steps_of, first_bad, room_answer}
+use Rattle.law.specs.Runs.{holds, first_row, steps_of, first_bad, room_answer}
 use Rattle.plan.specs.declared.table.Span.{Span}
 use Rattle.plan.specs.declared.table.Table.{Table}
-use Rattle.plan.specs.Contents.{chains_of, steps_in, chain_number, span_of, with_rows}
+use Rattle.plan.specs.Contents.{chains_of, steps_in, chain_number, span_of}
 use Rattle.plan.proofs.Memory.{rows_are, length_chains}
 
 abbrev pub no_step : StepFields
 no_step = record { node = 0; cost = 0; local = record { ticks = 0 }; delay = 0; blocking = 0; priority = 0 }
-
--- ## The rows, written one by one
-
--- a memory with one row more, and the rows for the rest of the steps behind it
-pub row_pushed : (t t' : Table) (period : ℕ) (steps : List StepFields) (k : ℕ) → k < length steps → t'.entries ≡ t.entries →
-    t'.rows ≡ t.rows ++ row_of period (get_or steps k no_step) ∷ [] → t'.responses.items ≡ t.responses.items ++ 0 ∷ [] → t'.standing ≡ t.standing →
-    with_rows t' period (drop (k + 1) steps) ≡ with_rows t period (drop k steps)
-row_pushed t t' period steps k inside e r x s =
-    rw (
-      at_drop_more (with_rows t period) steps k no_step inside,
-      e,
-      r,
-      x,
-      s,
-      append_assoc t.rows (row_of period (get_or steps k no_step) ∷ []) (map (row_of period) (drop (k + 1) steps)),
-      append_assoc t.responses.items (0 ∷ []) (replicate (length (drop (k + 1) steps)) 0),
-    )
 
 -- ## The tests of an add
 

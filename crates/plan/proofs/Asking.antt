@@ -1,6 +1,5 @@
 -- Where a named step stands, and what a question answers.
 use Rattle.std.proofs.Common.{◌≡◌, ℕ, ◌+◌, ◌-◌, ◌<◌, ◌≤◌, Bool, true, false, cond, eqb, List, [], ◌∷◌, length, get_or, is_some, Some, None, Ok, Err, Result, refl, ap, ◌∙◌, arith, length-append}
-use Rattle.std.proofs.lemmas.Bool.{le-leb}
 use Rattle.records.specs.Ranges.{within}
 use Rattle.rules.specs.Rules.{Meaning}
 use Rattle.law.specs.declared.answers.Reply.TheVariants.{Told}
@@ -38,9 +37,6 @@ span_shows cs i s e = by (holds cs i) refl e
     by : (b : Bool) → holds cs i ≡ b → Some s ≡ cond b (Some (record { entry = chain_number cs i; first = first_row cs i; steps = steps_of cs i })) None → Spans cs i s
     by true t e = let f : s ≡ record { entry = chain_number cs i; first = first_row cs i; steps = steps_of cs i } = cc in record { holds = t; entry = ap (λ (x : Span). x.entry) f; first = ap (λ (x : Span). x.first) f; steps = ap (λ (x : Span). x.steps) f }
     by false t e = let z : ◌≡◌ {A = ℕ} 0 1 = cc in absurd (omega arith)
-
-pub named_ok : (cs : List Held) (i k : ℕ) → holds cs i ≡ true → 1 ≤ k → k ≤ steps_of cs i → Ok (place_of cs i k) ≡ row_named cs i k
-named_ok cs i k h a b = rw (h, le-leb 1 k a, le-leb k (steps_of cs i) b)
 
 -- ## What a question answers
 

@@ -1,15 +1,9 @@
 -- The lines of a listing, one behind the other.
 use Rattle.std.proofs.Common.{◌≡◌, ℕ, zero, suc, ◌+◌, ◌-◌, ◌<◌, ◌≤◌, List, [], ◌∷◌, ◌++◌, length, get_or, Some, codes, refl, sym, ap, ◌∙◌, add-one, arith, length-append, append_assoc, append-nil}
 use Rattle.writing.specs.Writing.{line_bytes}
-use Rattle.law.specs.Assignments.{Held, rows_of, jitters_of}
+use Rattle.law.specs.Assignments.{rows_of}
 use Rattle.law.specs.State.{Contents}
-use Rattle.plan.specs.declared.table.Place.{Place}
-use Rattle.plan.specs.Contents.{place_in}
-use Rattle.plan.specs.Listing.{fields_at, row_fields, row_line, rows_bytes, listing_bytes}
-
-pub fields_are : (cs : List Held) (xs : List ℕ) (k : ℕ) (p : Place) (jitter response : ℕ) → Some p ≡ place_in cs k → jitter ≡ get_or (jitters_of cs xs) k 0 → response ≡ get_or xs k 0 →
-    p.chain.id ∷ (p.step + 1) ∷ jitter ∷ response ∷ [] ≡ row_fields cs xs k
-fields_are cs xs k p jitter response e j r = rw (j, r) (ap (λ o. fields_at o (get_or (jitters_of cs xs) k 0) (get_or xs k 0)) e)
+use Rattle.plan.specs.Listing.{row_line, rows_bytes, listing_bytes}
 
 module _ (s : Contents) where
   rows_none : rows_bytes s 0 ≡ []

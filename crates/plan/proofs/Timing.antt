@@ -1,5 +1,5 @@
 -- The jitters and responses of a plan's rows: what single reads of its memory come to.
-use Rattle.std.proofs.Common.{◌≡◌, ℕ, zero, suc, ◌+◌, ◌-◌, ◌*◌, ◌<◌, ◌≤◌, Bool, true, false, cond, eqb, leb, List, [], ◌∷◌, ◌++◌, length, get_or, drop, replicate, Some, None, Option, MatchOption, sym, refl, ap, ◌∙◌, ap₂, le_refl, add_assoc, suc-mul, mul-le-mul, zero-add, zero-mul, add-one, arith}
+use Rattle.std.proofs.Common.{◌≡◌, ℕ, zero, suc, ◌+◌, ◌-◌, ◌*◌, ◌<◌, ◌≤◌, Bool, true, false, cond, eqb, leb, List, [], ◌∷◌, ◌++◌, length, get_or, drop, replicate, Some, None, Option, MatchOption, sym, refl, ap, ◌∙◌, ap₂, le_refl, add_assoc, suc-mul, mul-le-mul, zero-add, zero-mul, arith}
 use Rattle.std.proofs.lemmas.List.{length-take-le, length-drop, at_drop_more}
 use Rattle.std.specs.Bool.{then_some}
 use Rattle.std.proofs.lemmas.Bool.{leb-true, eqb-true, eq-eqb, ne_eqb}
@@ -115,9 +115,6 @@ module _ (answer : Meaning) (cs : List Held) (xs : List ℕ) where
   pub round_refused : (k : ℕ) → k < length (rows_of cs) → None ≡ row_response answer cs xs k → None ≡ round answer cs xs
   unfolding round
   round_refused k h e = all_of_none (row_response answer cs xs) (length (rows_of cs)) k h e
-
-  pub round_next : (next : List ℕ) (k y : ℕ) → all_of (row_response answer cs xs) k ≡ Some next → Some y ≡ row_response answer cs xs k → all_of (row_response answer cs xs) (k + 1) ≡ Some (next ++ y ∷ [])
-  round_next next k y front e = rw (add-one k, front, ← e)
 
   pub round_done : (next : List ℕ) (k : ℕ) → k ≡ length (rows_of cs) → all_of (row_response answer cs xs) k ≡ Some next → Some next ≡ round answer cs xs
   unfolding round

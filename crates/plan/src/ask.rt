@@ -17,9 +17,9 @@ impl<R: NodeRule> Plan<R> {
     {
         let row = self.locate(id, step)?;
         self.table.standing.ok_or(Refusal::NotSolved)?;
-        let responses = self.table.responses.as_slice();
-        let jitter = self.jitter(row, responses);
-        let response = responses[row];
+        let kept = self.kept();
+        let jitter = kept.jitter(row);
+        let response = kept.responses[row];
         Ok(Timing { jitter, response })
     }
 }

@@ -58,9 +58,8 @@ impl<R> Plan<R> {
     {
         let place = self.place(row);
         let step = place.step as u32 + 1;
-        let responses = self.table.responses.as_slice();
-        let jitter = self.jitter(row, responses);
-        [place.chain.id, step, jitter, responses[row]]
+        let kept = self.kept();
+        [place.chain.id, step, kept.jitter(row), kept.responses[row]]
     }
 
     // Writes the listing to the front of the buffer and answers how many bytes it has, or 9 or 20. The rest of the buffer stays as it was.

@@ -9,32 +9,66 @@ use crate::plan::Plan;
 use arrayvec::ArrayVec;
 use rules::NodeRule;
 
-impl<R> Plan<R> {
-    // The release jitter of a row, where the rows respond so.
-    pub(crate) fn jitter(&self, row: usize, responses: &[u32]) -> u32
-        requires inside { row < length self.now.table.rows }
-        requires small { responses_fit_in self.now.table responses.now ≡ true }
-        ensures { result ≡ slice_index (jitters_of (chains_of self.now.table) responses.now) row }
+// An assignment of a response to each row of a plan.
+#[derive(Drop)]
+pub(crate) struct Assignment<'a, R> {
+    pub(crate) plan: &'a Plan<R>,
+    pub(crate) responses: &'a [u32],
+    ghost fit: { responses_fit_in plan.now.table responses.now ≡ true },
+}
+
+impl<R> Assignment<'_, R> {
+    // The release jitter of a row.
+    pub(crate) fn jitter(&self, row: usize) -> u32
+        requires { row < length self.now.plan.now.table.rows }
+        ensures { result ≡ slice_index (jitters_of (chains_of self.now.plan.now.table) self.now.responses.now) row }
     {
-        let place = self.place(row);
+        let place = self.plan.place(row);
         let before = if place.step == 0 {
             place.chain.arrival_jitter
         } else {
-            responses[row - 1]
+            self.responses[row - 1]
         };
-        before + self.table.rows.as_slice()[row].step.delay
+        before + self.plan.table.rows.as_slice()[row].step.delay
     }
 
     // The jitters of all rows.
-    fn jitters(&self, responses: &[u32]) -> ArrayVec<u32, 64>
-        requires { responses_fit_in self.now.table responses.now ≡ true }
-        ensures { result.items ≡ jitters_of (chains_of self.now.table) responses.now }
+    fn jitters(&self) -> ArrayVec<u32, 64>
+        ensures { result.items ≡ jitters_of (chains_of self.now.plan.now.table) self.now.responses.now }
     {
         let mut jitters = ArrayVec::new();
-        for row in 0..self.table.rows.len() {
-            jitters.push(self.jitter(row, responses));
+        for row in 0..self.plan.table.rows.len() {
+            jitters.push(self.jitter(row));
         }
         jitters
+    }
+}
+
+impl<R: NodeRule> Assignment<'_, R> {
+    // The responses of the next round, or `None` where one is over or past its chain's deadline.
+    pub(crate) fn next(&self) -> Option<ArrayVec<u32, 64>>
+        ensures value { option_map (λ next. next.items) result ≡ round_of (R.answer self.now.plan.now.rule) (chains_of self.now.plan.now.table) self.now.responses.now }
+        ensures small { IfSome result (λ next. responses_fit_in self.now.plan.now.table next.items ≡ true) }
+    {
+        let jitters = self.jitters();
+        let mut next = ArrayVec::new();
+        for row in 0..self.plan.table.rows.len() {
+            next.push(self.plan.row_response(row, jitters.as_slice())?);
+        }
+        Some(next)
+    }
+}
+
+impl<R> Plan<R> {
+    // The responses that a plan keeps.
+    pub(crate) fn kept(&self) -> Assignment<'_, R>
+        ensures plan { result.plan.now ≡ self.now }
+        ensures responses { result.responses.now ≡ self.now.table.responses.items }
+    {
+        Assignment {
+            plan: self,
+            responses: self.table.responses.as_slice(),
+        }
     }
 
     // One round more than the deadlines of all rows add up to.
@@ -60,19 +94,5 @@ impl<R: NodeRule> Plan<R> {
         self.rule
             .response(self.table.rows.as_slice(), jitters, row)
             .filter(|response| *response <= latest)
-    }
-
-    // The responses of the next round, or `None` where one is over or past its chain's deadline.
-    pub(crate) fn round(&self, responses: &[u32]) -> Option<ArrayVec<u32, 64>>
-        requires { responses_fit_in self.now.table responses.now ≡ true }
-        ensures value { option_map (λ next. next.items) result ≡ round_of (R.answer self.now.rule) (chains_of self.now.table) responses.now }
-        ensures small { IfSome result (λ next. responses_fit_in self.now.table next.items ≡ true) }
-    {
-        let jitters = self.jitters(responses);
-        let mut next = ArrayVec::new();
-        for row in 0..self.table.rows.len() {
-            next.push(self.row_response(row, jitters.as_slice())?);
-        }
-        Some(next)
     }
 }

@@ -6,6 +6,7 @@ ghost use Rattle.law.specs.State.{answer_of, solving, solve_answer, solved_with,
 ghost use Rattle.plan.specs.Contents.{contents, responses_fit_in, outcome_of};
 
 use crate::plan::Plan;
+use crate::round::Assignment;
 use crate::table::Settled;
 use arrayvec::ArrayVec;
 use law::Refusal;
@@ -30,7 +31,11 @@ impl<R: NodeRule> Plan<R> {
         let most = self.most_rounds();
         let mut responses = self.start();
         for rounds in 1..=most {
-            let Some(next) = self.round(responses.as_slice()) else {
+            let now = Assignment {
+                plan: self,
+                responses: responses.as_slice(),
+            };
+            let Some(next) = now.next() else {
                 return Settled {
                     rounds,
                     responses: None,

@@ -8,23 +8,21 @@ use Rattle.plan.proofs.Solving.{Sound, sound}
 use Rattle.plan.proofs.Timing.{fitting}
 use Rattle.plan.proofs.plan.Plan.add.Goals as goal
 
-pub returns-in_err-check_steps : goal.returns-in_err-check_steps
-returns-in_err-check_steps g c =
+pub returns-in_err-check_steps-clause-run : goal.returns-in_err-check_steps-clause-run
+returns-in_err-check_steps-clause-run g c =
     let p = c.args.self.now in
     let fault = c.in_err-check_steps.field-0.0 in
     let e = err_from_is_err_and c.from_residual.result c.from_residual.ensures.1 in
     let value = field_refused (chains_of p.table) c.args.chain c.args.steps.now fault c.in_err-check_steps.ensures in
-    let made = add_refused (g.R.NodeRule.answer p.rule) (contents p.table) c.args.chain c.args.steps.now (Field fault) value in
-    rw (e.1, e.2) (record { rule = refl; value = made.value; after = refl; run = made.run })
+    rw (e.1, e.2) (add_refused (g.R.NodeRule.answer p.rule) (contents p.table) c.args.chain c.args.steps.now (Field fault) value).run
 
-pub returns-in_err-check_room : goal.returns-in_err-check_room
-returns-in_err-check_room g c =
+pub returns-in_err-check_room-clause-run : goal.returns-in_err-check_room-clause-run
+returns-in_err-check_room-clause-run g c =
     let p = c.args.self.now in
     let why = c.in_err-check_room.field-0.0 in
     let e = err_from_is_err_and c.from_residual-in_err-check_room.result c.from_residual-in_err-check_room.ensures.1 in
     let value = room_refused (chains_of p.table) c.args.chain c.args.steps.now (Err why) c.in_ok-check_steps.ensures (rw c.fields-fields.ensures at c.in_err-check_room.ensures) in
-    let made = add_refused (g.R.NodeRule.answer p.rule) (contents p.table) c.args.chain c.args.steps.now why value in
-    rw (e.1, e.2) (record { rule = refl; value = made.value; after = refl; run = made.run })
+    rw (e.1, e.2) (add_refused (g.R.NodeRule.answer p.rule) (contents p.table) c.args.chain c.args.steps.now why value).run
 
 pub append-requires : goal.append-requires
 append-requires g c =

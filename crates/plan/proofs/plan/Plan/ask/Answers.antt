@@ -22,5 +22,5 @@ returns-in_err-ok_or-clause-run g c =
 pub returns-clause-run : goal.returns-clause-run
 returns-clause-run g c =
     let p = c.args.self.now in
-    let kept = c.as_slice-responses.ensures.value in
-    (ask_told (g.R.NodeRule.answer p.rule) (contents p.table) c.args.id c.args.step c.in_ok-row.row c.jitter-jitter.result _ c.in_ok-row.ensures.value (ap is_some c.in_ok-ok_or.ensures.ok_part) (rw kept at c.jitter-jitter.ensures) (ap (λ xs. get_or xs c.in_ok-row.row 0) kept)).run
+    let kept = c.kept-kept.ensures in
+    (ask_told (g.R.NodeRule.answer p.rule) (contents p.table) c.args.id c.args.step c.in_ok-row.row c.jitter-jitter.result _ c.in_ok-row.ensures.value (ap is_some c.in_ok-ok_or.ensures.ok_part) (rw (kept.plan, kept.responses) at c.jitter-jitter.ensures) (ap (λ xs. get_or xs c.in_ok-row.row 0) kept.responses)).run

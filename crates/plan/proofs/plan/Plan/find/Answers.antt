@@ -1,5 +1,5 @@
 use Rattle.std.proofs.Common.{sym, ◌∙◌, arith}
-use Rattle.plan.proofs.Memory.{span_from, span_is, next_steps, span_hit, span_next, none_left}
+use Rattle.plan.proofs.Memory.{span_from, span_is, span_hit, none_left}
 use Rattle.plan.proofs.plan.Plan.find.Goals as goal
 
 pub returns-then-held-id : goal.returns-then-held-id
@@ -7,17 +7,6 @@ returns-then-held-id g c =
     let p = c.args.self.now in
     let hit = span_hit c.deref-held-items.result.now c.deref-held-items.ensures.0 c.loop-entry.entry c.loop-entry-test.true c.args.id c.loop-entry.first c.if-held-id.true in
     hit ∙ c.loop-entry.invariant.0 ∙ span_is c.args.id p.table.entries.items p.table.rows (omega (arith, p.rows_counted))
-
-pub overflow_add-first : goal.overflow_add-first
-overflow_add-first g c =
-    let s = next_steps c.deref-held-items.result.now c.deref-held-items.ensures.0 c.loop-entry.entry c.loop-entry-test.true in
-    omega (arith, c.loop-entry.invariant.1, c.args.self.now.few_rows, c.args.self.now.rows_counted)
-
-pub loop-entry-preserved : goal.loop-entry-preserved
-loop-entry-preserved g c =
-    let s = next_steps c.deref-held-items.result.now c.deref-held-items.ensures.0 c.loop-entry.entry c.loop-entry-test.true in
-    let n = span_next c.deref-held-items.result.now c.deref-held-items.ensures.0 c.loop-entry.entry c.loop-entry-test.true c.args.id c.loop-entry.first c.if-held-id.false in
-    (n ∙ c.loop-entry.invariant.0, omega (arith, c.loop-entry.invariant.1))
 
 pub returns : goal.returns
 returns g c =

@@ -21,12 +21,6 @@ overflow_add-sum g c =
     let turn = sum_turn p.table.entries.items (omega (arith, p.few_rows, p.rows_counted)) p.chains_fit c.as_slice-held-items.result.now c.as_slice-held-items.ensures.value c.loop-held.held-index c.loop-held.sum c.loop-held-test.true c.loop-held.invariant in
     omega (arith, turn.small)
 
-pub loop-held-preserved : goal.loop-held-preserved
-loop-held-preserved g c =
-    let p = c.args.self.now in
-    let turn = sum_turn p.table.entries.items (omega (arith, p.few_rows, p.rows_counted)) p.chains_fit c.as_slice-held-items.result.now c.as_slice-held-items.ensures.value c.loop-held.held-index c.loop-held.sum c.loop-held-test.true c.loop-held.invariant in
-    turn.next
-
 pub returns : goal.returns
 returns g c =
     let p = c.args.self.now in

@@ -7,12 +7,11 @@ invariant_of-self-in-None g c =
     let s = subst Sound (sym c.forget.ensures) (sound_forgotten (sound c.args.self.now)) in
     record { few_rows = s.few_rows; rows_counted = s.rows_counted; chains_fit = s.chains_fit; rows_fit = s.rows_fit; responses_fit = s.responses_fit }
 
-pub returns-in-Some : goal.returns-in-Some
-returns-in-Some g c =
+pub returns-in-Some-clause-run : goal.returns-in-Some-clause-run
+returns-in-Some-clause-run g c =
     let p = c.args.self.now in
     let laws = g.met.R.NodeRule.lawful p.rule in
-    let done = solve_kept (g.R.NodeRule.answer p.rule) laws p.table c.keep.new.self c.settle-rounds.result c.settle-rounds.ensures.value c.in-Some.kept c.in-Some.is c.keep.ensures in
-    record { rule = refl; value = done.value; after = done.left; run = done.run }
+    (solve_kept (g.R.NodeRule.answer p.rule) laws p.table c.keep.new.self c.settle-rounds.result c.settle-rounds.ensures.value c.in-Some.kept c.in-Some.is c.keep.ensures).run
 
 pub returns-in-None : goal.returns-in-None
 returns-in-None g c =
