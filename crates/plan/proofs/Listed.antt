@@ -1,5 +1,5 @@
 -- The lines of a listing, one behind the other.
-use Rattle.std.proofs.Common.{◌≡◌, ℕ, zero, suc, ◌+◌, ◌-◌, ◌<◌, ◌≤◌, List, [], ◌∷◌, ◌++◌, length, get_or, Some, codes, refl, sym, ap, ◌∙◌, add-one, arith, length-append, append_assoc, append-nil}
+use Rattle.std.proofs.Common.{◌≡◌, ℕ, zero, suc, ◌+◌, ◌-◌, ◌<◌, ◌≤◌, List, [], ◌∷◌, ◌++◌, length, codes, refl, sym, ap, ◌∙◌, add-one, arith, length-append, append_assoc, append-nil}
 use Rattle.writing.specs.Writing.{line_bytes}
 use Rattle.law.specs.Assignments.{rows_of}
 use Rattle.law.specs.State.{Contents}
