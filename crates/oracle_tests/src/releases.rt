@@ -15,19 +15,15 @@ pub struct Source {
     // the instant of the first job after them
     later: u64,
     // the instant of the next job that counts and is not yet counted
-    next: u64,
+    next: Option<u64>,
 }
-
-// Where no deadline matters, every job is due.
-pub const NO_DEADLINE: u64 = u64::MAX;
-// The instant of a job that does not count. No scan comes there.
-const NEVER: u64 = u64::MAX;
 
 impl Source {
     // The jobs of a row of this period, cost, local deadline and release jitter.
     pub fn new(period: u64, cost: u64, local: u64, jitter: u64) -> Source {
         let mut together: u64 = 0;
         let mut nominal: u64 = 0;
+        // a walk over the releases and no division, to stay unlike the first analyser; `step_by` visits every tick
         for _ in 0..=jitter {
             if nominal > jitter {
                 break;
@@ -35,81 +31,77 @@ impl Source {
             together = together.saturating_add(1);
             nominal = nominal.saturating_add(period);
         }
-        let later = nominal.saturating_sub(jitter);
         Source {
             cost,
             period,
             local,
             together,
-            later,
-            next: later,
+            later: nominal.saturating_sub(jitter),
+            next: None,
         }
     }
 
-    // The instant of a release, if the job is due in time. If not, neither is any later job of the row.
-    fn if_due(&self, instant: u64, due: u64) -> u64 {
-        if instant.saturating_add(self.local) <= due {
-            instant
+    // Whether a job released at this instant is due in time. If not, neither is any later job of the row.
+    fn is_due(&self, instant: u64, due: Option<u64>) -> bool {
+        due.is_none_or(|due| instant.saturating_add(self.local) <= due)
+    }
+
+    // The next job that counts is the one of this instant, if any.
+    fn go_to(&mut self, instant: u64, due: Option<u64>) {
+        self.next = self.is_due(instant, due).then_some(instant);
+    }
+
+    // Starts a scan: the work of the jobs released at instant 0.
+    fn begin(&mut self, due: Option<u64>) -> u64 {
+        self.go_to(self.later, due);
+        if self.is_due(0, due) {
+            self.together.saturating_mul(self.cost)
         } else {
-            NEVER
+            0
         }
+    }
+
+    // Goes on with a scan: the work of the job released at this later instant, if there is one.
+    fn pass(&mut self, instant: u64, due: Option<u64>) -> u64 {
+        if self.next != Some(instant) {
+            return 0;
+        }
+        self.go_to(instant.saturating_add(self.period), due);
+        self.cost
     }
 }
 
-// Jobs that come at one instant: their work, and the instant at which the next jobs that count come.
-#[derive(Clone, Copy)]
-struct Batch {
-    work: u64,
-    soonest: u64,
+// Starts a scan: the work of the jobs released at instant 0.
+fn begin(sources: &mut [Source], due: Option<u64>) -> u64 {
+    let starts = sources.iter_mut().map(|source| source.begin(due));
+    starts.fold(0, |all: u64, work| all.saturating_add(work))
 }
 
-// Starts a scan: the jobs released at instant 0.
-fn first_batch(sources: &mut Vec<Source>, due: u64) -> Batch {
-    let mut work: u64 = 0;
-    let mut soonest = NEVER;
-    for source in sources.iter_mut() {
-        source.next = source.if_due(source.later, due);
-        soonest = soonest.min(source.next);
-        if source.local <= due {
-            work = work.saturating_add(source.together.saturating_mul(source.cost));
-        }
-    }
-    Batch { work, soonest }
+// Goes on with a scan: the work of the jobs released at this later instant.
+fn pass(sources: &mut [Source], instant: u64, due: Option<u64>) -> u64 {
+    let passes = sources.iter_mut().map(|source| source.pass(instant, due));
+    passes.fold(0, |all: u64, work| all.saturating_add(work))
 }
 
-// Goes on with a scan: the jobs released at this later instant.
-fn batch_at(sources: &mut Vec<Source>, instant: u64, due: u64) -> Batch {
-    let mut work: u64 = 0;
-    let mut soonest = NEVER;
-    for source in sources.iter_mut() {
-        if source.next == instant {
-            work = work.saturating_add(source.cost);
-            source.next = source.if_due(instant.saturating_add(source.period), due);
-        }
-        soonest = soonest.min(source.next);
-    }
-    Batch { work, soonest }
+// The instant at which the next jobs that count come.
+fn soonest(sources: &[Source]) -> Option<u64> {
+    sources.iter().filter_map(|source| source.next).min()
 }
 
 // The least window of at least one tick that equals the work in it: the row's own work and that of the jobs that count.
-// None if there is none up to the limit.
-pub fn least_window(own: u64, sources: &mut Vec<Source>, due: u64, limit: u64) -> Option<u64> {
-    let first = first_batch(sources, due);
-    let mut work = own.saturating_add(first.work);
-    let mut soonest = first.soonest;
+// With no `due` every job does. None if there is no window up to the limit.
+pub fn least_window(own: u64, sources: &mut [Source], due: Option<u64>, limit: u64) -> Option<u64> {
+    let mut work = own.saturating_add(begin(sources, due));
     let mut window: u64 = 1;
     for _ in 0..limit {
+        let next = soonest(sources);
         // from this tick to the next release the work stays the same
-        if work >= window && work <= soonest {
-            return if work <= limit { Some(work) } else { None };
+        if work >= window && next.is_none_or(|instant| work <= instant) {
+            return (work <= limit).then_some(work);
         }
-        if soonest >= limit {
-            return None;
-        }
-        let batch = batch_at(sources, soonest, due);
-        work = work.saturating_add(batch.work);
-        window = soonest.saturating_add(1);
-        soonest = batch.soonest;
+        let instant = next.filter(|instant| *instant < limit)?;
+        work = work.saturating_add(pass(sources, instant, due));
+        window = instant.saturating_add(1);
     }
     None
 }
