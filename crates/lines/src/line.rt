@@ -17,7 +17,7 @@ pub struct NodeLine {
     pub letter: Letter,
 }
 
-#[derive(Clone, Copy)]
+#[derive(Clone, Copy, PartialEq, Eq, Debug)]
 pub enum Line {
     Node(NodeLine),
     Chain(ChainFields),
