@@ -55,8 +55,8 @@ pub passes_append : {A : Type 0} (p : A → Bool) (xs ys : List A) → each_pass
 passes_append p [] ys e f = f
 passes_append p (x ∷ xs) ys e f = let (a, b) = and_true (p x) (each_passes p xs) e in rw a (passes_append p xs ys b f)
 
-pub sound_added : {t : Table} → Sound t → (c : Chain) (steps : List StepFields) → first_bad steps ≡ None → length t.rows + length steps ≤ 64 → Sound (appended t c.fields steps)
-sound_added {t} s c steps good rows =
+pub sound_added : (t : Table) → Sound t → (c : Chain) (steps : List StepFields) → first_bad steps ≡ None → length t.rows + length steps ≤ 64 → Sound (appended t c.fields steps)
+sound_added t s c steps good rows =
     let counted = s.rows_counted in
     let push = steps_push t.entries.items (record { fields = c.fields; steps = length steps }) in
     let more = map (row_of c.fields.period) steps in

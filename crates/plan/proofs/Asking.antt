@@ -11,7 +11,9 @@ use Rattle.law.specs.Runs.Call.{ask}
 use Rattle.law.specs.State.{Contents, ask_answer, Keeps}
 use Rattle.law.proofs.Steps.{ask_keeps}
 use Rattle.plan.specs.declared.table.Span.{Span}
-use Rattle.plan.specs.Contents.{chain_number, span_of, row_named}
+use Rattle.plan.specs.declared.table.Table.{Table}
+use Rattle.plan.specs.Contents.{chains_of, steps_in, chain_number, span_of, row_named}
+use Rattle.plan.proofs.Memory.{rows_are}
 
 -- ## The row of a named step
 
@@ -37,6 +39,14 @@ span_shows cs i s e = by (holds cs i) refl e
     by : (b : Bool) → holds cs i ≡ b → Some s ≡ cond b (Some (record { entry = chain_number cs i; first = first_row cs i; steps = steps_of cs i })) None → Spans cs i s
     by true t e = let f : s ≡ record { entry = chain_number cs i; first = first_row cs i; steps = steps_of cs i } = cc in record { holds = t; entry = ap (λ (x : Span). x.entry) f; first = ap (λ (x : Span). x.first) f; steps = ap (λ (x : Span). x.steps) f }
     by false t e = let z : ◌≡◌ {A = ℕ} 0 1 = cc in absurd (omega arith)
+
+pub row_inside : (t : Table) → steps_in t.entries.items ≡ length t.rows → (id k : ℕ) (s : Span) → Some s ≡ span_of (chains_of t) id → ((k ≡ 0) → ⊥) → k ≤ s.steps → s.first + (k - 1) < length t.rows
+row_inside t counted id k s found low high =
+    let spans = span_shows (chains_of t) id s found in
+    let n = ap length (rows_are t.entries.items t.rows counted) in
+    let steps = spans.steps in
+    let inside = place_inside (chains_of t) id k (omega (arith, low)) (omega arith) in
+    omega (arith, spans.first)
 
 -- ## What a question answers
 

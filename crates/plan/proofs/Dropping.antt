@@ -126,7 +126,7 @@ length_removed xs at gap h =
     let d = length-drop (at + gap) xs in
     omega arith
 
-module _ {t : Table} (before : Sound t) (id : ℕ) (span : Span) (found : Spans (chains_of t) id span) where
+module _ (t : Table) (before : Sound t) (id : ℕ) (span : Span) (found : Spans (chains_of t) id span) where
   -- where the chain's rows lie
   pub span_inside : (span.entry < length t.entries.items) × (span.first + span.steps ≤ length t.rows)
   span_inside =

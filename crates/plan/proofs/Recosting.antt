@@ -111,7 +111,7 @@ named_from cs i k n e = by (holds cs i) refl (within 1 (steps_of cs i) k) refl e
     by true p false q e = let z : ◌≡◌ {A = ℕ} 0 1 = cc in absurd (omega arith)
     by false p b q e = let z : ◌≡◌ {A = ℕ} 0 1 = cc in absurd (omega arith)
 
-module _ {t : Table} (before : Sound t) (n cost : ℕ) (inside : n < length t.rows) (range : (1 ≤ cost) × (cost ≤ 1000000)) where
+module _ (t : Table) (before : Sound t) (n cost : ℕ) (inside : n < length t.rows) (range : (1 ≤ cost) × (cost ≤ 1000000)) where
   counted : steps_in t.entries.items ≡ length (costing_at n cost t.rows)
   counted = before.rows_counted ∙ sym (length-set t.rows n (costing cost (row t.rows n)))
 

@@ -29,18 +29,21 @@ pub forgotten_fits : (t : Table) → responses_fit_in (forgotten t) (forgotten t
 forgotten_fits t = fits_in (forgotten t) (replicate (length t.rows) 0) (length-replicate _ _) (zeros_pass (length t.rows))
 
 -- what a plan's type promises of its memory
-pub record Sound (t : Table) : Type 0 where
-  pub few_rows : length t.rows ≤ 64
-  pub rows_counted : steps_in t.entries.items ≡ length t.rows
-  pub chains_fit : each_passes entry_fits t.entries.items ≡ true
-  pub rows_fit : each_passes row_fits t.rows ≡ true
-  pub responses_fit : responses_fit_in t t.responses.items ≡ true
+abbrev pub Sound : Table → Type 0
+Sound t =
+    record {
+      few_rows : length t.rows ≤ 64;
+      rows_counted : steps_in t.entries.items ≡ length t.rows;
+      chains_fit : each_passes entry_fits t.entries.items ≡ true;
+      rows_fit : each_passes row_fits t.rows ≡ true;
+      responses_fit : responses_fit_in t t.responses.items ≡ true;
+    }
 
 pub sound : {R : Type 0} (p : Plan R) → Sound p.table
 sound p = record { few_rows = p.few_rows; rows_counted = p.rows_counted; chains_fit = p.chains_fit; rows_fit = p.rows_fit; responses_fit = p.responses_fit }
 
-pub sound_forgotten : {t : Table} → Sound t → Sound (forgotten t)
-sound_forgotten {t} s = record { few_rows = s.few_rows; rows_counted = s.rows_counted; chains_fit = s.chains_fit; rows_fit = s.rows_fit; responses_fit = forgotten_fits t }
+pub sound_forgotten : (t : Table) → Sound t → Sound (forgotten t)
+sound_forgotten t s = record { few_rows = s.few_rows; rows_counted = s.rows_counted; chains_fit = s.chains_fit; rows_fit = s.rows_fit; responses_fit = forgotten_fits t }
 
 -- what it says then is the chains anew
 pub forgotten_anew : (t : Table) → steps_in t.entries.items ≡ length t.rows → contents (forgotten t) ≡ anew (chains_of t)

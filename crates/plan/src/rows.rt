@@ -6,7 +6,7 @@ ghost use Rattle.records.specs.declared.fields.Row.{Row as ListedRow};
 use records::{LocalDeadline, Row, StepFields};
 use std::marker::Model;
 
-// What the unused places hold. No `Default` of `Row` says it, for then a missing field could be read as zero.
+// What the unused places hold.
 const NO_ROW: Row = Row {
     period: 0,
     step: StepFields {
@@ -19,7 +19,7 @@ const NO_ROW: Row = Row {
     },
 };
 
-// An array with its count, and no `ArrayVec`: that one asks for a `Default` of its elements.
+// An array with its count: an `ArrayVec` asks for a `Default` of its elements, and no missing field of a row may be read as zero.
 #[derive(Drop)]
 pub(crate) struct Rows {
     pub(crate) places: [Row; 64],

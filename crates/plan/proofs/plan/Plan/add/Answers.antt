@@ -39,8 +39,7 @@ invariant_of-self g c =
     let done = room_refused (chains_of p.table) c.args.chain steps (Ok Done) c.in_ok-check_steps.ensures (rw c.fields-fields.ensures at c.in_ok-check_room.ensures) in
     let test = tested p.table p.rows_counted c.args.chain steps done in
     let is : c.append.new.self ≡ appended p.table c.args.chain.fields steps = rw c.fields-fields.ensures at c.append.ensures in
-    let s = subst Sound (sym is) (sound_added (sound p) c.args.chain steps test.fields test.rows) in
-    record { few_rows = s.few_rows; rows_counted = s.rows_counted; chains_fit = s.chains_fit; rows_fit = s.rows_fit; responses_fit = s.responses_fit }
+    subst Sound (sym is) (sound_added p.table (sound p) c.args.chain steps test.fields test.rows)
 
 pub returns : goal.returns
 returns g c =

@@ -22,20 +22,19 @@ pub remove-requires : goal.remove-requires
 remove-requires g c =
     let p = c.args.self.now in
     let found = span_shows (chains_of p.table) c.args.id c.in_ok-span.span (sym c.in_ok-span.ensures.ok_part ∙ c.find.ensures) in
-    let inside = span_inside (sound p) c.args.id c.in_ok-span.span found in
+    let inside = span_inside p.table (sound p) c.args.id c.in_ok-span.span found in
     record { chain = inside.0; rows = inside.1; responses = (fitting p.table p.table.responses.items p.responses_fit).one_each }
 
 pub invariant_of-self : goal.invariant_of-self
 invariant_of-self g c =
     let p = c.args.self.now in
     let found = span_shows (chains_of p.table) c.args.id c.in_ok-span.span (sym c.in_ok-span.ensures.ok_part ∙ c.find.ensures) in
-    let s = subst Sound (sym c.remove.ensures) (sound_removed (sound p) c.args.id c.in_ok-span.span found) in
-    record { few_rows = s.few_rows; rows_counted = s.rows_counted; chains_fit = s.chains_fit; rows_fit = s.rows_fit; responses_fit = s.responses_fit }
+    subst Sound (sym c.remove.ensures) (sound_removed p.table (sound p) c.args.id c.in_ok-span.span found)
 
 pub returns : goal.returns
 returns g c =
     let p = c.args.self.now in
     let found = span_shows (chains_of p.table) c.args.id c.in_ok-span.span (sym c.in_ok-span.ensures.ok_part ∙ c.find.ensures) in
-    let after = ap contents c.remove.ensures ∙ contents_dropped (sound p) c.args.id c.in_ok-span.span found in
+    let after = ap contents c.remove.ensures ∙ contents_dropped p.table (sound p) c.args.id c.in_ok-span.span found in
     let made = drop_accepted (g.R.NodeRule.answer p.rule) (contents p.table) (contents c.remove.new.self) c.args.id found.holds after in
     record { rule = refl; value = made.value; after = after; run = made.run }

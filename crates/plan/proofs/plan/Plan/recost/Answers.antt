@@ -32,8 +32,7 @@ invariant_of-self-inside g c =
     let rows = c.self.inside.0.1.0.0.1.0 in
     let place = c.overwrite.ensures ∙ ap (λ (rs : List Row). costing c.args.cost (row rs n)) (c.as_slice.ensures ∙ ap (λ (t : Table). t.rows) view) in
     let wrote = row_written rows.places rows.count c.args.cost view inside place in
-    let s = subst Sound (sym wrote) (sound_costed (sound p) n c.args.cost inside (low, c.if-cost-gt1000000.false)) in
-    record { few_rows = s.few_rows; rows_counted = s.rows_counted; chains_fit = s.chains_fit; rows_fit = s.rows_fit; responses_fit = s.responses_fit }
+    subst Sound (sym wrote) (sound_costed p.table (sound p) n c.args.cost inside (low, c.if-cost-gt1000000.false))
 
 pub invariant_of-self-3 : goal.invariant_of-self-3
 unfolding no_row
@@ -46,8 +45,7 @@ invariant_of-self-3 g c =
     let rows = c.self.inside.0.1.0.0.1.0 in
     let place = c.overwrite.ensures ∙ ap (λ (rs : List Row). costing c.args.cost (row rs n)) (c.as_slice.ensures ∙ ap (λ (t : Table). t.rows) view) in
     let is : c.forget.new.self ≡ forgotten (cost_at p.table n c.args.cost) = c.forget.ensures ∙ ap forgotten (row_written rows.places rows.count c.args.cost view inside place) in
-    let s = subst Sound (sym is) (sound_forgotten (sound_costed (sound p) n c.args.cost inside (low, c.if-cost-gt1000000.false))) in
-    record { few_rows = s.few_rows; rows_counted = s.rows_counted; chains_fit = s.chains_fit; rows_fit = s.rows_fit; responses_fit = s.responses_fit }
+    subst Sound (sym is) (sound_forgotten (cost_at p.table n c.args.cost) (sound_costed p.table (sound p) n c.args.cost inside (low, c.if-cost-gt1000000.false)))
 
 pub returns : goal.returns
 unfolding no_row
@@ -60,6 +58,6 @@ returns g c =
     let rows = c.self.inside.0.1.0.0.1.0 in
     let place = c.overwrite.ensures ∙ ap (λ (rs : List Row). costing c.args.cost (row rs n)) (c.as_slice.ensures ∙ ap (λ (t : Table). t.rows) view) in
     let is : c.forget.new.self ≡ forgotten (cost_at p.table n c.args.cost) = c.forget.ensures ∙ ap forgotten (row_written rows.places rows.count c.args.cost view inside place) in
-    let after = ap contents is ∙ contents_recosted (sound p) n c.args.cost inside (low, c.if-cost-gt1000000.false) c.args.id c.args.step c.in_ok-row.ensures.value in
+    let after = ap contents is ∙ contents_recosted p.table (sound p) n c.args.cost inside (low, c.if-cost-gt1000000.false) c.args.id c.args.step c.in_ok-row.ensures.value in
     let made = recost_accepted (g.R.NodeRule.answer p.rule) (contents p.table) c.args.id c.args.step c.args.cost n (contents c.forget.new.self) c.in_ok-row.ensures.value (low, c.if-cost-gt1000000.false) after in
     record { rule = ap (λ (q : Plan _). q.rule) c.self.view_is; value = made.value; after = after; run = made.run }

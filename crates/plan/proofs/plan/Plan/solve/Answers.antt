@@ -4,8 +4,7 @@ use Rattle.plan.proofs.plan.Plan.solve.Goals as goal
 
 pub invariant_of-self-in-None : goal.invariant_of-self-in-None
 invariant_of-self-in-None g c =
-    let s = subst Sound (sym c.forget.ensures) (sound_forgotten (sound c.args.self.now)) in
-    record { few_rows = s.few_rows; rows_counted = s.rows_counted; chains_fit = s.chains_fit; rows_fit = s.rows_fit; responses_fit = s.responses_fit }
+    subst Sound (sym c.forget.ensures) (sound_forgotten c.args.self.now.table (sound c.args.self.now))
 
 pub returns-in-Some-clause-run : goal.returns-in-Some-clause-run
 returns-in-Some-clause-run g c =
