@@ -1,4 +1,5 @@
 // A seeded generator of numbers: the same seed gives the same run.
+// It keeps no allocator, which stands beside it where memory is taken: most of what is rolled takes none.
 ghost use Rattle.std.specs.Prelude.{◌<◌, length};
 
 #[derive(Drop)]

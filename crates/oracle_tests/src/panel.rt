@@ -280,7 +280,7 @@ impl Panel {
         chain.steps.get(k).ok_or(Refusal::NoSuchStep)
     }
 
-    // The same, to be changed.
+    // The same, to be changed: no one function lends both ways, as with `get` and `get_mut`.
     fn find_mut(&mut self, id: u64, number: u64) -> Result<&mut HeldStep, Refusal> {
         let mut chains = self.chains.iter_mut();
         let chain = chains

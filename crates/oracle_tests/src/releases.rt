@@ -15,8 +15,12 @@ pub struct Source {
     // the instant of the first job after them
     later: u64,
     // the instant of the next job that counts and is not yet counted
-    next: Option<u64>,
+    next: u64,
 }
+
+// The instant of a job that does not count. No scan comes there.
+// A number and no `Option<u64>`: with that the scans, and so the whole comparison, took nearly twice as long.
+const NEVER: u64 = u64::MAX;
 
 impl Source {
     // The jobs of a row of this period, cost, local deadline and release jitter.
@@ -37,22 +41,26 @@ impl Source {
             local,
             together,
             later: nominal.saturating_sub(jitter),
-            next: None,
+            next: NEVER,
         }
     }
 
     // Whether a job released at this instant is due in time. If not, neither is any later job of the row.
-    fn is_due(&self, instant: u64, due: Option<u64>) -> bool {
-        due.is_none_or(|due| instant.saturating_add(self.local) <= due)
+    fn is_due(&self, instant: u64, due: u64) -> bool {
+        instant.saturating_add(self.local) <= due
     }
 
     // The next job that counts is the one of this instant, if any.
-    fn go_to(&mut self, instant: u64, due: Option<u64>) {
-        self.next = self.is_due(instant, due).then_some(instant);
+    fn go_to(&mut self, instant: u64, due: u64) {
+        self.next = if self.is_due(instant, due) {
+            instant
+        } else {
+            NEVER
+        };
     }
 
     // Starts a scan: the work of the jobs released at instant 0.
-    fn begin(&mut self, due: Option<u64>) -> u64 {
+    fn begin(&mut self, due: u64) -> u64 {
         self.go_to(self.later, due);
         if self.is_due(0, due) {
             self.together.saturating_mul(self.cost)
@@ -62,8 +70,8 @@ impl Source {
     }
 
     // Goes on with a scan: the work of the job released at this later instant, if there is one.
-    fn pass(&mut self, instant: u64, due: Option<u64>) -> u64 {
-        if self.next != Some(instant) {
+    fn pass(&mut self, instant: u64, due: u64) -> u64 {
+        if self.next != instant {
             return 0;
         }
         self.go_to(instant.saturating_add(self.period), due);
@@ -71,37 +79,67 @@ impl Source {
     }
 }
 
-// Starts a scan: the work of the jobs released at instant 0.
-fn begin(sources: &mut [Source], due: Option<u64>) -> u64 {
-    let starts = sources.iter_mut().map(|source| source.begin(due));
-    starts.fold(0, |all: u64, work| all.saturating_add(work))
+// Jobs that come at one instant: their work, and the instant at which the next jobs that count come.
+#[derive(Clone, Copy)]
+struct Batch {
+    work: u64,
+    next: u64,
 }
 
-// Goes on with a scan: the work of the jobs released at this later instant.
-fn pass(sources: &mut [Source], instant: u64, due: Option<u64>) -> u64 {
-    let passes = sources.iter_mut().map(|source| source.pass(instant, due));
-    passes.fold(0, |all: u64, work| all.saturating_add(work))
+impl Batch {
+    const EMPTY: Batch = Batch {
+        work: 0,
+        next: NEVER,
+    };
+
+    // With the work of one more row, and its next job.
+    fn and(self, work: u64, next: u64) -> Batch {
+        Batch {
+            work: self.work.saturating_add(work),
+            next: self.next.min(next),
+        }
+    }
 }
 
-// The instant at which the next jobs that count come.
-fn soonest(sources: &[Source]) -> Option<u64> {
-    sources.iter().filter_map(|source| source.next).min()
+// Starts a scan: the jobs released at instant 0.
+fn begin(sources: &mut [Source], due: u64) -> Batch {
+    let mut batch = Batch::EMPTY;
+    for source in sources {
+        batch = batch.and(source.begin(due), source.next);
+    }
+    batch
+}
+
+// Goes on with a scan: the jobs released at this later instant.
+fn pass(sources: &mut [Source], instant: u64, due: u64) -> Batch {
+    let mut batch = Batch::EMPTY;
+    for source in sources {
+        batch = batch.and(source.pass(instant, due), source.next);
+    }
+    batch
 }
 
 // The least window of at least one tick that equals the work in it: the row's own work and that of the jobs that count.
 // With no `due` every job does. None if there is no window up to the limit.
 pub fn least_window(own: u64, sources: &mut [Source], due: Option<u64>, limit: u64) -> Option<u64> {
-    let mut work = own.saturating_add(begin(sources, due));
+    // every instant is due by the last of all
+    let due = due.unwrap_or(u64::MAX);
+    let first = begin(sources, due);
+    let mut work = own.saturating_add(first.work);
+    let mut next = first.next;
     let mut window: u64 = 1;
     for _ in 0..limit {
-        let next = soonest(sources);
         // from this tick to the next release the work stays the same
-        if work >= window && next.is_none_or(|instant| work <= instant) {
+        if work >= window && work <= next {
             return (work <= limit).then_some(work);
         }
-        let instant = next.filter(|instant| *instant < limit)?;
-        work = work.saturating_add(pass(sources, instant, due));
-        window = instant.saturating_add(1);
+        if next >= limit {
+            return None;
+        }
+        let batch = pass(sources, next, due);
+        work = work.saturating_add(batch.work);
+        window = next.saturating_add(1);
+        next = batch.next;
     }
     None
 }
