@@ -42,10 +42,9 @@ impl Dice {
     }
 
     // One of these.
-    pub fn of<T: Copy>(&mut self, items: &[T]) -> T
-        requires { 0 < length items.now }
-    {
-        items[self.place(items.len())]
+    pub fn of<T: Copy + Default>(&mut self, items: &[T]) -> T {
+        let at = self.place(items.len());
+        items.get(at).copied().unwrap_or_default()
     }
 
     // A place in a list of this length, or 0 where it is empty.
