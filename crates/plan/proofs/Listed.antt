@@ -3,7 +3,10 @@ use Rattle.std.proofs.Common.{◌≡◌, ℕ, zero, suc, ◌+◌, ◌-◌, ◌<�
 use Rattle.writing.specs.Writing.{line_bytes}
 use Rattle.law.specs.Assignments.{rows_of}
 use Rattle.law.specs.State.{Contents}
+use Rattle.plan.specs.declared.table.Table.{Table}
+use Rattle.plan.specs.Contents.{contents, steps_in}
 use Rattle.plan.specs.Listing.{row_line, rows_bytes, listing_bytes}
+use Rattle.plan.proofs.Memory.{rows_are}
 
 module _ (s : Contents) where
   rows_none : rows_bytes s 0 ≡ []
@@ -45,14 +48,21 @@ module _ (s : Contents) where
         let r = so_far_rises (all - n) n in
         omega arith
 
-    module _ (n : ℕ) (all : length (rows_of s.chains) ≡ n) where
-      pub listing_is : listing_bytes s rounds ≡ so_far n
-      unfolding listing_bytes
-      listing_is = rw all
+    pub listing_is : (n : ℕ) → length (rows_of s.chains) ≡ n → listing_bytes s rounds ≡ so_far n
+    unfolding listing_bytes
+    listing_is n all = rw all
 
-      -- the room that each write of the listing needs
-      pub heading_room : length (line_bytes (codes "rounds") (rounds ∷ [])) ≤ length (listing_bytes s rounds)
-      heading_room = let none = ap length so_far_none in let whole = ap length listing_is in let p = part 0 n (omega arith) in omega arith
+-- the room that each write of the listing needs
+module _ (t : Table) (counted : steps_in t.entries.items ≡ length t.rows) (rounds : ℕ) where
+  pub all_rows : listing_bytes (contents t) rounds ≡ so_far (contents t) rounds (length t.rows)
+  all_rows = listing_is (contents t) rounds (length t.rows) (ap length (rows_are t.entries.items t.rows counted))
 
-      pub row_room : (k : ℕ) → k < n → length (so_far k) + length (row_line s.chains s.start k) ≤ length (listing_bytes s rounds)
-      row_room k inside = let more = length_more k in let whole = ap length listing_is in let p = part (k + 1) n (omega arith) in omega arith
+  pub heading_room : length (line_bytes (codes "rounds") (rounds ∷ [])) ≤ length (listing_bytes (contents t) rounds)
+  heading_room =
+      let none = ap length (so_far_none (contents t) rounds) in let whole = ap length all_rows in let p = part (contents t) rounds 0 (length t.rows) (omega arith) in omega arith
+
+  pub row_room : (k : ℕ) → k < length t.rows → length (so_far (contents t) rounds k) + length (row_line (contents t).chains (contents t).start k) ≤ length (listing_bytes (contents t) rounds)
+  row_room k inside =
+      let more = length_more (contents t) rounds k in let whole = ap length all_rows in let p = part (contents t) rounds (k + 1) (length t.rows) (omega arith) in omega arith
+
+pub ruleset room = (heading_room, row_room)

@@ -5,7 +5,7 @@ ghost use Rattle.plan.specs.Listing.{row_fields, listing_bytes, listing_answer, 
 
 use crate::plan::Plan;
 use law::Refusal;
-use writing::{Line, Text, put};
+use writing::{Line, Text};
 
 // The listing of a plan.
 #[derive(Drop)]
@@ -33,20 +33,24 @@ impl<R> Text for Listing<'_, R> {
         len
     }
 
-    fn write(&self, buffer: &mut [u8], at: usize) -> usize {
+    #[tactic(auto, using(crate::proofs::Listed::room))]
+    fn put(&self, buffer: &mut [u8], at: usize) -> Option<usize> {
+        if !self.fits(buffer, at) {
+            return None;
+        }
         let heading = Line {
             word: b"rounds",
             fields: &[self.rounds],
         };
-        let mut end = heading.write(buffer, at);
+        let mut end = heading.put(buffer, at)?;
         for row in 0..self.plan.table.rows.len() {
             let line = Line {
                 word: b"step",
                 fields: &self.plan.row_line(row),
             };
-            end = line.write(buffer, end);
+            end = line.put(buffer, end)?;
         }
-        end
+        Some(end)
     }
 }
 
@@ -69,6 +73,6 @@ impl<R> Plan<R> {
     {
         let rounds = self.table.standing.ok_or(Refusal::NotSolved)?;
         let listing = Listing { plan: self, rounds };
-        put(buffer, 0, &listing).ok_or(Refusal::BufferShort)
+        listing.put(buffer, 0).ok_or(Refusal::BufferShort)
     }
 }

@@ -5,7 +5,7 @@ ghost use Rattle.report.specs.Reports.{fault_bytes, nothing_bytes, write_answer}
 
 use law::Refusal;
 use lines::TableFault;
-use writing::{Line, put};
+use writing::{Line, Text};
 
 const WORD: &[u8] = b"refused";
 
@@ -19,7 +19,7 @@ pub fn write_fault(fault: &TableFault, buffer: &mut [u8]) -> Result<usize, Refus
         word: WORD,
         fields: &[fault.fault.number(), fault.line, fault.field],
     };
-    put(buffer, 0, &line).ok_or(Refusal::BufferShort)
+    line.put(buffer, 0).ok_or(Refusal::BufferShort)
 }
 
 // Writes `refused,10,` with the rounds made to the front of the buffer, and answers how many bytes these are, or 20.
@@ -32,5 +32,5 @@ pub fn write_nothing_carries(rounds: u32, buffer: &mut [u8]) -> Result<usize, Re
         word: WORD,
         fields: &[10, rounds],
     };
-    put(buffer, 0, &line).ok_or(Refusal::BufferShort)
+    line.put(buffer, 0).ok_or(Refusal::BufferShort)
 }

@@ -2,7 +2,7 @@
 use Rattle.std.proofs.Common.{◌≡◌, ℕ, ◌+◌, ◌<◌, ◌≤◌, List, [], ◌∷◌, ◌++◌, length, set, refl, ap, ◌∙◌, add-one, arith, length-append, append_assoc}
 use Rattle.std.proofs.lemmas.List.{set_split}
 use Rattle.std.proofs.lemmas.List.Edits.{paste_all, length-paste, paste-paste}
-use Rattle.writing.specs.Writing.{put_at}
+use Rattle.writing.specs.Writing.{put_at, after_write}
 
 module _ (b : List ℕ) (at : ℕ) (xs : List ℕ) where
   pub length_put : at + length xs ≤ length b → length (put_at b at xs) ≡ length b
@@ -20,10 +20,20 @@ module _ (b : List ℕ) (at : ℕ) (xs : List ℕ) where
       let same = length_put (omega arith) in
       rw (set_split (put_at b at xs) (at + length xs) x (omega arith), ← add-one (at + length xs)) (put_put (x ∷ []) (omega arith))
 
--- one byte behind them, and more bytes behind that
-pub put_behind : (b : List ℕ) (at : ℕ) (xs : List ℕ) (x : ℕ) (ys : List ℕ) → at + length xs < length b →
-    put_at (set (put_at b at xs) (at + length xs) x) (at + length xs + 1) ys ≡ put_at b at (xs ++ x ∷ ys)
-put_behind b at xs x ys room =
+-- what fits is written
+pub fitting : (b : List ℕ) (at : ℕ) (xs : List ℕ) → at + length xs ≤ length b → after_write b at xs ≡ put_at b at xs
+fitting b at xs room = search (arith)
+
+-- a write behind another, where both fit, is one write of both
+pub after_put : (b : List ℕ) (at : ℕ) (xs ys : List ℕ) → at + length xs + length ys ≤ length b → after_write (put_at b at xs) (at + length xs) ys ≡ put_at b at (xs ++ ys)
+after_put b at xs ys room =
+    let same = length_put b at xs (omega arith) in
+    fitting (put_at b at xs) (at + length xs) ys (omega arith) ∙ put_put b at xs ys (omega arith)
+
+-- one byte behind them, and a write behind that
+pub after_byte : (b : List ℕ) (at : ℕ) (xs : List ℕ) (x : ℕ) (ys : List ℕ) → at + length xs + 1 + length ys ≤ length b →
+    after_write (set (put_at b at xs) (at + length xs) x) (at + length xs + 1) ys ≡ put_at b at (xs ++ x ∷ ys)
+after_byte b at xs x ys room =
     let long = length-append xs (x ∷ []) in
     let end : at + length xs + 1 ≡ at + length (xs ++ x ∷ []) = omega arith in
-    rw (set_behind b at xs x room, end) (put_put b at (xs ++ x ∷ []) ys (omega arith)) ∙ ap (put_at b at) (append_assoc xs (x ∷ []) ys)
+    rw (set_behind b at xs x (omega arith), end) (after_put b at (xs ++ x ∷ []) ys (omega arith)) ∙ ap (put_at b at) (append_assoc xs (x ∷ []) ys)

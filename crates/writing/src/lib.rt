@@ -1,12 +1,12 @@
 // Bytes and numbers into the caller's buffer, from a place on: all of them, or none.
 #![tactic(auto)]
 
-ghost use Rattle.std.specs.Prelude.{◌≡◌, ℕ, ◌+◌, ◌-◌, ◌^◌, ◌≤◌, min, List, length, decimal};
-ghost use Rattle.writing.specs.Writing.{put_at, written, after_write, line_bytes};
+ghost use Rattle.std.specs.Prelude.{◌≡◌, ℕ, ◌-◌, ◌^◌, min, List, length, decimal};
+ghost use Rattle.writing.specs.Writing.{has_room, written, after_write, line_bytes};
 
 use itoa::Buffer;
 
-// What can be written: bytes, and how many they are. A test of room stands in `put` alone, once for the whole.
+// What can be written: bytes, and how many they are.
 pub trait Text {
     ghost bytes: { Self → List ℕ };
 
@@ -14,24 +14,20 @@ pub trait Text {
     fn len(&self) -> usize
         ensures { result ≡ min (length (bytes self.now)) (2 ^ 64 - 1) };
 
-    // Where there is room, the bytes from `at` on; it answers the place behind them. The two stay apart: a struct of the buffer and the place would
-    // owe one clause more at every write, that it is the same buffer still.
-    fn write(&self, buffer: &mut [u8], at: usize) -> usize
-        requires { at + length (bytes self.now) ≤ length buffer.old }
-        ensures value { result ≡ at + length (bytes self.now) }
-        ensures after { buffer.new ≡ put_at buffer.old at (bytes self.now) };
-}
+    // Writes the bytes from `at` on, all of them or nothing, and answers the place behind them.
+    fn put(&self, buffer: &mut [u8], at: usize) -> Option<usize>
+        ensures value { result ≡ written buffer.old at (bytes self.now) }
+        ensures after { buffer.new ≡ after_write buffer.old at (bytes self.now) };
 
-// Writes a text from `at` on, and answers the place behind it. Its length is tested first, so that nothing is written where not all of it fits.
-pub fn put<T: Text>(buffer: &mut [u8], at: usize, text: &T) -> Option<usize>
-    ensures value { result ≡ written buffer.old at (T.bytes text.now) }
-    ensures after { buffer.new ≡ after_write buffer.old at (T.bytes text.now) }
-{
-    let room = buffer.len().checked_sub(at)?;
-    if text.len() > room {
-        return None;
+    // Whether the bytes fit from `at` on. What is put together of several texts asks it first, once for the whole.
+    fn fits(&self, buffer: &[u8], at: usize) -> bool
+        ensures { result ≡ has_room buffer.now at (bytes self.now) }
+    {
+        buffer
+            .len()
+            .checked_sub(at)
+            .is_some_and(|room| self.len() <= room)
     }
-    Some(text.write(buffer, at))
 }
 
 impl Text for &[u8] {
@@ -41,10 +37,12 @@ impl Text for &[u8] {
         (*self).len()
     }
 
-    fn write(&self, buffer: &mut [u8], at: usize) -> usize {
-        let end = at + (*self).len();
+    fn put(&self, buffer: &mut [u8], at: usize) -> Option<usize> {
+        let end = at
+            .checked_add((*self).len())
+            .filter(|end| *end <= buffer.len())?;
         buffer[at..end].copy_from_slice(self);
-        end
+        Some(end)
     }
 }
 
@@ -56,8 +54,8 @@ impl Text for u32 {
         Buffer::new().format(*self).len()
     }
 
-    fn write(&self, buffer: &mut [u8], at: usize) -> usize {
-        Buffer::new().format(*self).as_bytes().write(buffer, at)
+    fn put(&self, buffer: &mut [u8], at: usize) -> Option<usize> {
+        Buffer::new().format(*self).as_bytes().put(buffer, at)
     }
 }
 
@@ -81,13 +79,16 @@ impl Text for Line<'_> {
     }
 
     #[tactic(auto, using(crate::proofs::Lines::line_room))]
-    fn write(&self, buffer: &mut [u8], at: usize) -> usize {
-        let mut end = self.word.write(buffer, at);
+    fn put(&self, buffer: &mut [u8], at: usize) -> Option<usize> {
+        if !self.fits(buffer, at) {
+            return None;
+        }
+        let mut end = self.word.put(buffer, at)?;
         for field in self.fields {
             buffer[end] = b',';
-            end = field.write(buffer, end + 1);
+            end = field.put(buffer, end + 1)?;
         }
         buffer[end] = b'\n';
-        end + 1
+        Some(end + 1)
     }
 }

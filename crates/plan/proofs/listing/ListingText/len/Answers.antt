@@ -1,8 +1,7 @@
 use Rattle.std.proofs.Common.{◌≡◌, length, codes, ap, arith}
 use Rattle.writing.specs.Writing.{line_bytes}
 use Rattle.plan.specs.Contents.{contents}
-use Rattle.plan.proofs.Listed.{so_far, so_far_none, length_more, listing_is}
-use Rattle.plan.proofs.Memory.{rows_are}
+use Rattle.plan.proofs.Listed.{so_far, so_far_none, length_more, all_rows}
 use Rattle.plan.proofs.listing.ListingText.len.Goals as goal
 
 pub loop-row-init : goal.loop-row-init
@@ -21,5 +20,5 @@ returns g c =
     let p = c.args.self.now.plan.now in
     let end : c.loop-row.row ≡ length p.table.rows = omega arith in
     let last = ap (λ n. length (so_far (contents p.table) c.args.self.now.rounds n)) end in
-    let whole = ap length (listing_is (contents p.table) c.args.self.now.rounds (length p.table.rows) (ap length (rows_are p.table.entries.items p.table.rows p.rows_counted))) in
+    let whole = ap length (all_rows p.table p.rows_counted c.args.self.now.rounds) in
     omega (arith, c.loop-row.invariant)

@@ -1,7 +1,7 @@
 use Rattle.std.proofs.Common.{◌≡◌, ◌+◌, length}
 use Rattle.writing.specs.Writing.{put_at}
 use Rattle.writing.proofs.Lines.{so_far}
-use Rattle.writing.proofs.LineText.write.Given as goal
+use Rattle.writing.proofs.LineText.put.Given as goal
 
 abbrev pub invariant-loop-field : goal.invariant-loop-field
 invariant-loop-field l =

@@ -2,7 +2,7 @@ use Rattle.std.proofs.Common.{◌≡◌, ◌+◌, length}
 use Rattle.writing.specs.Writing.{put_at}
 use Rattle.plan.specs.Contents.{contents}
 use Rattle.plan.proofs.Listed.{so_far}
-use Rattle.plan.proofs.listing.ListingText.write.Given as goal
+use Rattle.plan.proofs.listing.ListingText.put.Given as goal
 
 abbrev pub invariant-loop-row : goal.invariant-loop-row
 invariant-loop-row g l =
