@@ -4,7 +4,8 @@ use Rattle.std.specs.Cmp.Lexicographic.{pointwise}
 use lib.ListN.{length-replicate}
 use Rattle.arrayvec.specs.ArrayVec.{ArrayVec}
 use Rattle.records.specs.Ranges.{row_fits}
-use Rattle.rules.specs.Rules.{each_passes, Meaning, Laws}
+use Rattle.std.specs.List.{list_all}
+use Rattle.rules.specs.Rules.{Meaning, Laws}
 use Rattle.law.specs.declared.answers.Reply.TheVariants.{Solved}
 use Rattle.law.specs.declared.answers.Refusal.TheVariants.{NothingCarries}
 use Rattle.law.specs.Runs.{Answer}
@@ -20,7 +21,7 @@ use Rattle.plan.specs.Contents.{chains_of, contents, steps_in, entry_fits, respo
 use Rattle.plan.proofs.Memory.{rows_are}
 use Rattle.plan.proofs.Timing.{fits_in}
 
-pub zeros_pass : (n : ℕ) → each_passes response_fits (replicate n 0) ≡ true
+pub zeros_pass : (n : ℕ) → list_all response_fits (replicate n 0) ≡ true
 zeros_pass zero = refl
 zeros_pass (suc n) = zeros_pass n
 
@@ -32,8 +33,8 @@ forgotten_fits t = fits_in (forgotten t) (replicate (length t.rows) 0) (length-r
 pub record Sound (t : Table) : Type 0 where
   pub few_rows : length t.rows ≤ 64
   pub rows_counted : steps_in t.entries.items ≡ length t.rows
-  pub chains_fit : each_passes entry_fits t.entries.items ≡ true
-  pub rows_fit : each_passes row_fits t.rows ≡ true
+  pub chains_fit : list_all entry_fits t.entries.items ≡ true
+  pub rows_fit : list_all row_fits t.rows ≡ true
   pub responses_fit : responses_fit_in t t.responses.items ≡ true
 
 pub sound : {R : Type 0} (p : Plan R) → Sound p.table
