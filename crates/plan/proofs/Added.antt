@@ -5,9 +5,10 @@ use Rattle.records.specs.declared.fields.RecordFault.{RecordFault}
 use Rattle.records.specs.declared.fields.StepFields.{StepFields}
 use Rattle.records.specs.declared.record.Chain.{Chain}
 use Rattle.records.specs.Ranges.{row_fits}
-use Rattle.records.proofs.InRange.{and_true}
-use Rattle.rules.specs.Rules.{each_passes, Meaning}
-use Rattle.rules.proofs.Lists.{each_passes_from}
+use Rattle.std.proofs.lemmas.Bool.{and_parts}
+use Rattle.std.specs.List.{list_all}
+use Rattle.rules.specs.Rules.{Meaning}
+use Rattle.rules.proofs.Lists.{passes_from}
 use Rattle.law.specs.declared.answers.Reply.TheVariants.{Done}
 use Rattle.law.specs.declared.answers.Refusal.{Refusal}
 use Rattle.law.specs.declared.answers.Refusal.TheVariants.{Field}
@@ -51,9 +52,9 @@ module _ (t : Table) (counted : steps_in t.entries.items ≡ length t.rows) (c :
   pub add_accepted : (answer : Meaning) → Ok Done ≡ add_answer (chains_of t) c steps → AddMade answer (contents t) (contents (appended t c.fields steps)) c steps (Ok Done)
   add_accepted answer e = record { value = e; run = rw contents_added (add_keeps answer (contents t) c steps e) }
 
-pub passes_append : {A : Type 0} (p : A → Bool) (xs ys : List A) → each_passes p xs ≡ true → each_passes p ys ≡ true → each_passes p (xs ++ ys) ≡ true
+pub passes_append : {A : Type 0} (p : A → Bool) (xs ys : List A) → list_all p xs ≡ true → list_all p ys ≡ true → list_all p (xs ++ ys) ≡ true
 passes_append p [] ys e f = f
-passes_append p (x ∷ xs) ys e f = let (a, b) = and_true (p x) (each_passes p xs) e in rw a (passes_append p xs ys b f)
+passes_append p (x ∷ xs) ys e f = let (a, b) = and_parts (p x) (list_all p xs) e in rw a (passes_append p xs ys b f)
 
 pub sound_added : (t : Table) → Sound t → (c : Chain) (steps : List StepFields) → first_bad steps ≡ None → length t.rows + length steps ≤ 64 → Sound (appended t c.fields steps)
 sound_added t s c steps good rows =
@@ -68,7 +69,7 @@ sound_added t s c steps good rows =
       few_rows = omega arith;
       rows_counted = omega arith;
       chains_fit = passes_append entry_fits t.entries.items (record { fields = c.fields; steps = length steps } ∷ []) s.chains_fit (rw c.in_range);
-      rows_fit = passes_append row_fits t.rows more s.rows_fit (each_passes_from row_fits Fits (λ r h. h) more (rows_fit c steps good));
+      rows_fit = passes_append row_fits t.rows more s.rows_fit (passes_from row_fits Fits (λ r h. h) more (rows_fit c steps good));
       responses_fit = fits_in (appended t c.fields steps) _ one_each (passes_append response_fits t.responses.items (replicate (length steps) 0) before.small (zeros_pass (length steps)));
     }
 

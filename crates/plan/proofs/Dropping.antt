@@ -6,8 +6,9 @@ use Rattle.std.proofs.lemmas.List.{length-take-le, length-drop, drop-drop, drop_
 use Rattle.std.specs.List.{remove_range}
 use Rattle.records.specs.declared.fields.Row.{Row}
 use Rattle.records.specs.Ranges.{row_fits}
-use Rattle.records.proofs.InRange.{and_true}
-use Rattle.rules.specs.Rules.{each_passes, Meaning}
+use Rattle.std.proofs.lemmas.Bool.{and_parts}
+use Rattle.std.specs.List.{list_all}
+use Rattle.rules.specs.Rules.{Meaning}
 use Rattle.law.specs.declared.answers.Reply.TheVariants.{Done}
 use Rattle.law.specs.declared.answers.Refusal.TheVariants.{IdUnknown}
 use Rattle.law.specs.Assignments.{Held, rows_of}
@@ -109,15 +110,15 @@ steps_kept id (e ∷ es) rows h t =
 
 -- ## What a plan holds after a drop
 
-passes_take : {A : Type 0} (p : A → Bool) (n : ℕ) (xs : List A) → each_passes p xs ≡ true → each_passes p (take n xs) ≡ true
+passes_take : {A : Type 0} (p : A → Bool) (n : ℕ) (xs : List A) → list_all p xs ≡ true → list_all p (take n xs) ≡ true
 passes_take p zero xs e = refl
 passes_take p (suc n) [] e = refl
-passes_take p (suc n) (x ∷ xs) e = let (a, b) = and_true (p x) (each_passes p xs) e in rw a (passes_take p n xs b)
+passes_take p (suc n) (x ∷ xs) e = let (a, b) = and_parts (p x) (list_all p xs) e in rw a (passes_take p n xs b)
 
-passes_drop : {A : Type 0} (p : A → Bool) (n : ℕ) (xs : List A) → each_passes p xs ≡ true → each_passes p (drop n xs) ≡ true
+passes_drop : {A : Type 0} (p : A → Bool) (n : ℕ) (xs : List A) → list_all p xs ≡ true → list_all p (drop n xs) ≡ true
 passes_drop p zero xs e = e
 passes_drop p (suc n) [] e = e
-passes_drop p (suc n) (x ∷ xs) e = passes_drop p n xs (and_true (p x) (each_passes p xs) e).1
+passes_drop p (suc n) (x ∷ xs) e = passes_drop p n xs (and_parts (p x) (list_all p xs) e).1
 
 length_removed : {A : Type 0} (xs : List A) (at gap : ℕ) → at + gap ≤ length xs → length (remove_range xs at (at + gap)) + gap ≡ length xs
 length_removed xs at gap h =

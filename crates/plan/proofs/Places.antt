@@ -5,8 +5,9 @@ use Rattle.std.proofs.lemmas.List.{get_or_append_left, get_or-append_right, get_
 use Rattle.std.proofs.lemmas.Bool.{ltb-true, ltb-false, eqb-false, ne_eqb}
 use Rattle.records.specs.declared.fields.Row.{Row}
 use Rattle.records.specs.Ranges.{chain_fits}
-use Rattle.records.proofs.InRange.{and_true}
-use Rattle.rules.specs.Rules.{each_passes, row, no_row}
+use Rattle.std.proofs.lemmas.Bool.{and_parts}
+use Rattle.std.specs.List.{list_all}
+use Rattle.rules.specs.Rules.{row, no_row}
 use Rattle.law.specs.Assignments.{Held, rows_of, deadlines_of, jitters_in, jitters_of}
 use Rattle.law.proofs.Chains.{length_jitters_in}
 use Rattle.plan.specs.declared.table.Entry.{Entry}
@@ -21,9 +22,9 @@ none_some : {A : Type 0} {P : Type 0} {x : A} → None ≡ Some x → P
 none_some e = let z : ◌≡◌ {A = ℕ} 0 1 = cc in absurd (omega arith)
 
 -- a chain that is found is one of those held, and fits
-pub place_fits : (es : List Entry) (k : ℕ) (p : Place) → each_passes entry_fits es ≡ true → Some p ≡ place_from k es → chain_fits p.chain ≡ true
+pub place_fits : (es : List Entry) (k : ℕ) (p : Place) → list_all entry_fits es ≡ true → Some p ≡ place_from k es → chain_fits p.chain ≡ true
 place_fits [] k p f e = none_some (sym e)
-place_fits (x ∷ es) k p f e = let (a, b) = and_true (entry_fits x) (each_passes entry_fits es) f in by (ltb k x.steps) a e (place_fits es (k - x.steps) p b)
+place_fits (x ∷ es) k p f e = let (a, b) = and_parts (entry_fits x) (list_all entry_fits es) f in by (ltb k x.steps) a e (place_fits es (k - x.steps) p b)
   where
     by : (t : Bool) → entry_fits x ≡ true → Some p ≡ cond t (Some (record { chain = x.fields; step = k })) (place_from (k - x.steps) es) →
         (Some p ≡ place_from (k - x.steps) es → chain_fits p.chain ≡ true) → chain_fits p.chain ≡ true

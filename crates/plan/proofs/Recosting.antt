@@ -7,8 +7,10 @@ use Rattle.std.proofs.lemmas.List.{length-take, length-take-le, length-drop, dro
 use Rattle.std.proofs.lemmas.Bool.{le-leb, lt-leb}
 use Rattle.records.specs.declared.fields.Row.{Row}
 use Rattle.records.specs.Ranges.{within, row_fits}
-use Rattle.records.proofs.InRange.{within_true, and_true}
-use Rattle.rules.specs.Rules.{each_passes, Meaning, row, no_row}
+use Rattle.std.proofs.lemmas.Bool.{and_parts}
+use Rattle.records.proofs.InRange.{within_true}
+use Rattle.std.specs.List.{list_all}
+use Rattle.rules.specs.Rules.{Meaning, row, no_row}
 use Rattle.rules.proofs.Lists.{passes_each, each_at}
 use Rattle.law.specs.declared.answers.Reply.TheVariants.{Done}
 use Rattle.law.specs.declared.answers.Refusal.{Refusal}
@@ -97,10 +99,10 @@ row_written {t} {entries} {responses} {standing} {n} {place} places count cost i
     let m = ap (λ (u : Table). length u.rows) is in
     rw (← is, take-set-lt count places n place (omega arith)) (ap (λ r. record { entries = entries; rows = set (take count places) n r; responses = responses; standing = standing }) (e ∙ ap (λ (u : Table). costing cost (row u.rows n)) (sym is)))
 
-passes_set : {A : Type 0} (p : A → Bool) (xs : List A) (i : ℕ) (y : A) → each_passes p xs ≡ true → p y ≡ true → each_passes p (set xs i y) ≡ true
+passes_set : {A : Type 0} (p : A → Bool) (xs : List A) (i : ℕ) (y : A) → list_all p xs ≡ true → p y ≡ true → list_all p (set xs i y) ≡ true
 passes_set p [] i y e f = e
-passes_set p (x ∷ xs) zero y e f = rw f (and_true (p x) (each_passes p xs) e).1
-passes_set p (x ∷ xs) (suc i) y e f = let (a, b) = and_true (p x) (each_passes p xs) e in rw a (passes_set p xs i y b f)
+passes_set p (x ∷ xs) zero y e f = rw f (and_parts (p x) (list_all p xs) e).1
+passes_set p (x ∷ xs) (suc i) y e f = let (a, b) = and_parts (p x) (list_all p xs) e in rw a (passes_set p xs i y b f)
 
 named_from : (cs : List Held) (i k n : ℕ) → Ok n ≡ row_named cs i k → Named cs i k × (n ≡ place_of cs i k)
 named_from cs i k n e = by (holds cs i) refl (within 1 (steps_of cs i) k) refl e

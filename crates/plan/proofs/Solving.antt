@@ -4,7 +4,8 @@ use Rattle.std.specs.Cmp.Lexicographic.{pointwise}
 use lib.ListN.{length-replicate}
 use Rattle.arrayvec.specs.ArrayVec.{ArrayVec}
 use Rattle.records.specs.Ranges.{row_fits}
-use Rattle.rules.specs.Rules.{each_passes, Meaning, Laws}
+use Rattle.std.specs.List.{list_all}
+use Rattle.rules.specs.Rules.{Meaning, Laws}
 use Rattle.law.specs.declared.answers.Reply.TheVariants.{Solved}
 use Rattle.law.specs.declared.answers.Refusal.TheVariants.{NothingCarries}
 use Rattle.law.specs.Runs.{Answer}
@@ -20,7 +21,7 @@ use Rattle.plan.specs.Contents.{chains_of, contents, steps_in, entry_fits, respo
 use Rattle.plan.proofs.Memory.{rows_are}
 use Rattle.plan.proofs.Timing.{fits_in}
 
-pub zeros_pass : (n : ℕ) → each_passes response_fits (replicate n 0) ≡ true
+pub zeros_pass : (n : ℕ) → list_all response_fits (replicate n 0) ≡ true
 zeros_pass zero = refl
 zeros_pass (suc n) = zeros_pass n
 
@@ -34,8 +35,8 @@ Sound t =
     record {
       few_rows : length t.rows ≤ 64;
       rows_counted : steps_in t.entries.items ≡ length t.rows;
-      chains_fit : each_passes entry_fits t.entries.items ≡ true;
-      rows_fit : each_passes row_fits t.rows ≡ true;
+      chains_fit : list_all entry_fits t.entries.items ≡ true;
+      rows_fit : list_all row_fits t.rows ≡ true;
       responses_fit : responses_fit_in t t.responses.items ≡ true;
     }
 

@@ -5,8 +5,10 @@ use Rattle.std.specs.Bool.{then_some}
 use Rattle.std.proofs.lemmas.Bool.{leb-true, eqb-true, eq-eqb, ne_eqb}
 use Rattle.records.specs.declared.fields.Row.{Row}
 use Rattle.records.specs.Ranges.{row_fits}
-use Rattle.records.proofs.InRange.{chain_in_range, row_in_range, and_true}
-use Rattle.rules.specs.Rules.{Meaning, each_passes, row, no_row}
+use Rattle.std.proofs.lemmas.Bool.{and_parts}
+use Rattle.records.proofs.InRange.{chain_in_range, row_in_range}
+use Rattle.std.specs.List.{list_all}
+use Rattle.rules.specs.Rules.{Meaning, row, no_row}
 use Rattle.rules.proofs.Lists.{passes_each, each_at}
 use Rattle.law.specs.Assignments.{Held, rows_of, deadlines_of, jitters_of, total}
 use Rattle.law.specs.State.{kept_within, all_of, row_response, round}
@@ -23,7 +25,7 @@ module _ (es : List Entry) (rows : List Row) (counted : steps_in es ≡ length r
   pub row_read : row (rows_of (chains_from es rows)) k ≡ row rows k
   row_read = rw (rows_are es rows counted) refl
 
-  pub delay_small : each_passes row_fits rows ≡ true → (row rows k).step.delay ≤ 1000000
+  pub delay_small : list_all row_fits rows ≡ true → (row rows k).step.delay ≤ 1000000
   delay_small fit =
       let f = passes_each row_fits (λ r. row_fits r ≡ true) (λ r h. h) rows fit in
       (row_in_range (row rows k) (each_at (λ r. row_fits r ≡ true) rows k no_row f inside)).step.delay
@@ -38,18 +40,18 @@ module _ (es : List Entry) (rows : List Row) (counted : steps_in es ≡ length r
       let w = rw d at j in
       sym (rw (← is) at w)
 
-pub response_small : (xs : List ℕ) (i : ℕ) → each_passes response_fits xs ≡ true → i < length xs → get_or xs i 0 ≤ 1000000
+pub response_small : (xs : List ℕ) (i : ℕ) → list_all response_fits xs ≡ true → i < length xs → get_or xs i 0 ≤ 1000000
 response_small xs i fit h = each_at (λ x. x ≤ 1000000) xs i 0 (passes_each response_fits (λ x. x ≤ 1000000) (λ x. leb-true x 1000000) xs fit) h
 
 -- responses that fit a memory: one for each row, and each is small
 pub record Fitting (t : Table) (xs : List ℕ) : Type 0 where
   pub one_each : length xs ≡ length t.rows
-  pub small : each_passes response_fits xs ≡ true
+  pub small : list_all response_fits xs ≡ true
 
 pub fitting : (t : Table) (xs : List ℕ) → responses_fit_in t xs ≡ true → Fitting t xs
-fitting t xs e = let (a, b) = and_true (eqb (length xs) (length t.rows)) (each_passes response_fits xs) e in record { one_each = eqb-true (length xs) (length t.rows) a; small = b }
+fitting t xs e = let (a, b) = and_parts (eqb (length xs) (length t.rows)) (list_all response_fits xs) e in record { one_each = eqb-true (length xs) (length t.rows) a; small = b }
 
-pub fits_in : (t : Table) (xs : List ℕ) → length xs ≡ length t.rows → each_passes response_fits xs ≡ true → responses_fit_in t xs ≡ true
+pub fits_in : (t : Table) (xs : List ℕ) → length xs ≡ length t.rows → list_all response_fits xs ≡ true → responses_fit_in t xs ≡ true
 fits_in t xs e f = rw (f, eq-eqb (length xs) (length t.rows) e)
 
 pub first_before : (arrival : ℕ) (responses : List ℕ) (k step : ℕ) → step ≡ 0 → arrival ≡ before arrival responses k step
@@ -79,10 +81,10 @@ deadlines_total (e ∷ es) rows h =
     rw (length-take-le e.steps rows (omega arith)) (total_append (replicate e.steps e.fields.deadline.ticks) (deadlines_of (chains_from es (drop e.steps rows)))
     ∙ ap₂ ◌+◌ (total_replicate e.steps e.fields.deadline.ticks) (deadlines_total es (drop e.steps rows) (omega arith)))
 
-pub deadlines_small : (es : List Entry) → each_passes entry_fits es ≡ true → deadlines_in es ≤ 1000000 * steps_in es
+pub deadlines_small : (es : List Entry) → list_all entry_fits es ≡ true → deadlines_in es ≤ 1000000 * steps_in es
 deadlines_small [] f = omega arith
 deadlines_small (e ∷ es) f =
-    let (a, b) = and_true (entry_fits e) (each_passes entry_fits es) f in
+    let (a, b) = and_parts (entry_fits e) (list_all entry_fits es) f in
     let d = (chain_in_range e.fields a).deadline.1 in
     let m = mul-le-mul (le_refl e.steps) d in
     let r = deadlines_small es b in
@@ -99,7 +101,7 @@ pub record Turn (es : List Entry) (k sum : ℕ) (x : Entry) : Type 0 where
   pub small : sum + x.steps * x.fields.deadline.ticks ≤ 64000001
   pub next : (sum + x.steps * x.fields.deadline.ticks) + deadlines_in (drop (k + 1) es) ≡ 1 + deadlines_in es
 
-pub sum_turn : (es : List Entry) → steps_in es ≤ 64 → each_passes entry_fits es ≡ true → (xs : List Entry) → xs ≡ es → (k sum : ℕ) → k < length xs →
+pub sum_turn : (es : List Entry) → steps_in es ≤ 64 → list_all entry_fits es ≡ true → (xs : List Entry) → xs ≡ es → (k sum : ℕ) → k < length xs →
     sum + deadlines_in (drop k es) ≡ 1 + deadlines_in es → Turn es k sum (get_or xs k no_entry)
 sum_turn es few fit xs e k sum inside inv =
     let s = next_steps xs e k inside in
@@ -120,9 +122,9 @@ module _ (answer : Meaning) (cs : List Held) (xs : List ℕ) where
   unfolding round
   round_done next k e all = rw (← e) (sym all)
 
-pub passes_push : (p : ℕ → Bool) (xs : List ℕ) (y : ℕ) → each_passes p xs ≡ true → p y ≡ true → each_passes p (xs ++ y ∷ []) ≡ true
+pub passes_push : (p : ℕ → Bool) (xs : List ℕ) (y : ℕ) → list_all p xs ≡ true → p y ≡ true → list_all p (xs ++ y ∷ []) ≡ true
 passes_push p [] y e f = rw f
-passes_push p (x ∷ xs) y e f = let (a, b) = and_true (p x) (each_passes p xs) e in rw a (passes_push p xs y b f)
+passes_push p (x ∷ xs) y e f = let (a, b) = and_parts (p x) (list_all p xs) e in rw a (passes_push p xs y b f)
 
 -- a response that is filtered by its deadline is kept within it
 pub filtered : {P : ℕ → Bool → Type 0} (o r : Option ℕ) (d : ℕ) → ((x : ℕ) (b : Bool) → P x b → b ≡ leb x d) →

@@ -6,7 +6,7 @@ use Rattle.records.specs.declared.fields.ChainFields.{ChainFields}
 use Rattle.records.specs.declared.fields.Row.{Row}
 use Rattle.records.specs.declared.fields.StepFields.{StepFields}
 use Rattle.records.specs.Ranges.{within, chain_fits}
-use Rattle.rules.specs.Rules.{each_passes}
+use Rattle.std.specs.List.{list_all}
 use Rattle.plan.specs.declared.table.Entry.{Entry}
 use Rattle.plan.specs.declared.table.Place.{Place}
 use Rattle.plan.specs.declared.table.Settled.{Settled}
@@ -45,7 +45,7 @@ response_fits x = nat_le x 1000000
 
 -- one for each row, and each of them is
 abbrev pub responses_fit_in : Table → List ℕ → Bool
-responses_fit_in t xs = (length xs == length t.rows) && each_passes response_fits xs
+responses_fit_in t xs = (length xs == length t.rows) && list_all response_fits xs
 
 -- ## Where things stand in it
 

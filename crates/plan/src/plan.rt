@@ -1,7 +1,7 @@
 // The plan, with what holds of its memory whatever the node rule.
 ghost use Rattle.std.specs.Prelude.{◌≡◌, ◌≤◌, true, length};
 ghost use Rattle.records.specs.Ranges.{row_fits};
-ghost use Rattle.rules.specs.Rules.{each_passes};
+ghost use Rattle.std.specs.List.{list_all};
 ghost use Rattle.plan.specs.Contents.{steps_in, entry_fits, responses_fit_in};
 
 use crate::table::Table;
@@ -13,7 +13,7 @@ pub struct Plan<R> {
     // the capacity of the list, known by its type, said again for the proofs above
     ghost few_rows: { length table.rows ≤ 64 },
     ghost rows_counted: { steps_in table.entries.items ≡ length table.rows },
-    ghost chains_fit: { each_passes entry_fits table.entries.items ≡ true },
-    ghost rows_fit: { each_passes row_fits table.rows ≡ true },
+    ghost chains_fit: { list_all entry_fits table.entries.items ≡ true },
+    ghost rows_fit: { list_all row_fits table.rows ≡ true },
     ghost responses_fit: { responses_fit_in table table.responses.items ≡ true },
 }

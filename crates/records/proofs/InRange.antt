@@ -1,6 +1,5 @@
 -- What the tests of a record's fields show: each field lies in its range.
-use Rattle.std.proofs.Common.{◌≡◌, ℕ, ◌≤◌, Bool, true, false, ◌&&◌, refl, arith}
-use mathlib.Core.Bool.{false≢true}
+use Rattle.std.proofs.Common.{◌≡◌, ℕ, ◌≤◌, true, arith}
 use Rattle.std.proofs.lemmas.Bool.Decides.{nat_tests}
 use Rattle.records.specs.declared.fields.ChainFields.{ChainFields}
 use Rattle.records.specs.declared.fields.Row.{Row}
@@ -27,10 +26,6 @@ pub record RowInRange (r : Row) : Type 0 where
 
 pub within_true : (low high n : ℕ) → within low high n ≡ true → (low ≤ n) × (n ≤ high)
 within_true low high n e = grind (arith, nat_tests)
-
-pub and_true : (a b : Bool) → (a && b) ≡ true → (a ≡ true) × (b ≡ true)
-and_true true b e = (refl, e)
-and_true false b e = absurd (false≢true e)
 
 pub chain_in_range : (c : ChainFields) → chain_fits c ≡ true → ChainInRange c
 chain_in_range c e = grind (arith, nat_tests)

@@ -1,7 +1,8 @@
 -- Lists under lists, and what holds of each element.
 use Rattle.std.proofs.Common.{◌≡◌, ℕ, zero, suc, ◌<◌, ◌≤◌, Bool, true, List, [], ◌∷◌, ◌++◌, length, get_or, drop, replicate, refl, ap, ap₂, arith}
 use Rattle.std.proofs.lemmas.Bool.{and_parts}
-use Rattle.rules.specs.Rules.{each_passes, Under}
+use Rattle.std.specs.List.{list_all}
+use Rattle.rules.specs.Rules.{Under}
 use Rattle.rules.specs.Rules.Under.{ended, beside}
 
 -- ## Lists under lists
@@ -84,10 +85,10 @@ each_under k ended p = p
 each_under k (beside h u) p = (omega arith, each_under k u p.1)
 
 -- what a test says of each element that passes
-pub passes_each : {A : Type 0} (p : A → Bool) (P : A → Type 0) → ((x : A) → p x ≡ true → P x) → (xs : List A) → each_passes p xs ≡ true → Each P xs
+pub passes_each : {A : Type 0} (p : A → Bool) (P : A → Type 0) → ((x : A) → p x ≡ true → P x) → (xs : List A) → list_all p xs ≡ true → Each P xs
 passes_each p P f [] e = tt
-passes_each p P f (x ∷ xs) e = let (a, b) = and_parts (p x) (each_passes p xs) e in (f x a, passes_each p P f xs b)
+passes_each p P f (x ∷ xs) e = let (a, b) = and_parts (p x) (list_all p xs) e in (f x a, passes_each p P f xs b)
 
-pub each_passes_from : {A : Type 0} (p : A → Bool) (P : A → Type 0) → ((x : A) → P x → p x ≡ true) → (xs : List A) → Each P xs → each_passes p xs ≡ true
-each_passes_from p P f [] e = refl
-each_passes_from p P f (x ∷ xs) e = rw (f x e.0) (each_passes_from p P f xs e.1)
+pub passes_from : {A : Type 0} (p : A → Bool) (P : A → Type 0) → ((x : A) → P x → p x ≡ true) → (xs : List A) → Each P xs → list_all p xs ≡ true
+passes_from p P f [] e = refl
+passes_from p P f (x ∷ xs) e = rw (f x e.0) (passes_from p P f xs e.1)

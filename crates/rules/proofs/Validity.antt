@@ -6,7 +6,7 @@ use Rattle.records.specs.declared.fields.Row.{Row}
 use Rattle.records.specs.Ranges.{row_fits}
 use Rattle.records.proofs.InRange.{RowInRange, row_in_range}
 use Rattle.rules.specs.Rules.{jitter_fits, valid, row, no_row, Under}
-use Rattle.rules.proofs.Lists.{Each, under_length, each_under, each_at, passes_each, each_passes_from}
+use Rattle.rules.proofs.Lists.{Each, under_length, each_under, each_at, passes_each, passes_from}
 
 pub record Valid (rows : List Row) (js : List ℕ) (i : ℕ) : Type 0 where
   pub inside : i < length rows
@@ -25,8 +25,8 @@ valid_shows rows js i e =
 pub valid_from : (rows : List Row) (js : List ℕ) (i : ℕ) → Valid rows js i → valid rows js i ≡ true
 unfolding valid
 valid_from rows js i v =
-    let small = each_passes_from jitter_fits (λ j. j ≤ 2000000) (λ j. le-leb j 2000000) js v.small in
-    let fits = each_passes_from row_fits (λ r. row_fits r ≡ true) (λ r h. h) rows v.fits in
+    let small = passes_from jitter_fits (λ j. j ≤ 2000000) (λ j. le-leb j 2000000) js v.small in
+    let fits = passes_from row_fits (λ r. row_fits r ≡ true) (λ r h. h) rows v.fits in
     grind (arith, nat_tests, small, fits, v.inside, v.one_each)
 
 -- a call with jitters under those of a valid call is valid

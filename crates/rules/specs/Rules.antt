@@ -7,17 +7,13 @@ use Rattle.climb.specs.Answers.{AtMost}
 
 -- ## Calls
 
--- every one passes
-abbrev pub each_passes : {A : Type 0} → (A → Bool) → List A → Bool
-each_passes p xs = list_all p xs
-
 -- a jitter is at most 2,000,000
 abbrev pub jitter_fits : ℕ → Bool
 jitter_fits j = nat_le j 2000000
 
 -- a call is valid: row i is one of the rows, each row has a jitter, and all numbers are in their ranges
 unfoldable pub valid : List Row → List ℕ → ℕ → Bool
-valid rows js i = nat_lt i (length rows) && length js == length rows && each_passes jitter_fits js && each_passes row_fits rows
+valid rows js i = nat_lt i (length rows) && length js == length rows && list_all jitter_fits js && list_all row_fits rows
 
 -- what stands where there is no row
 unfoldable pub no_row : Row
