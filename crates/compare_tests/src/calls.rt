@@ -1,8 +1,10 @@
 // Random calls of a plan.
+use crate::answer::{Answer, Refused};
 use crate::dice::Dice;
 use crate::sheet::{Scale, Work, random_chain};
-use oracle_tests::panel::{Answer, Panel};
+use oracle_tests::panel::Panel;
 use std::alloc::{AllocError, Global};
+use std::fmt;
 
 #[derive(Drop)]
 pub enum Call {
@@ -13,8 +15,21 @@ pub enum Call {
     Ask { id: u64, step: u64 },
 }
 
+// A call in words, for a difference.
+impl fmt::Display for Call {
+    fn fmt<W: fmt::Write>(&self, f: &mut fmt::Formatter<W>) -> fmt::Result {
+        match self {
+            Call::Add(work) => write!(f, "{work}"),
+            Call::DropChain { id } => writeln!(f, "drop,{id}"),
+            Call::Recost { id, step, cost } => writeln!(f, "recost,{id},{step},{cost}"),
+            Call::Solve => writeln!(f, "solve"),
+            Call::Ask { id, step } => writeln!(f, "ask,{id},{step}"),
+        }
+    }
+}
+
 // Mostly the id of a chain that was added, now and then any other.
-fn some_id(dice: &mut Dice, held: &Vec<u64>) -> u64 {
+fn some_id(dice: &mut Dice, held: &[u64]) -> u64 {
     let k = dice.place(held.len());
     match held.get(k) {
         Some(id) if dice.percent(92) => *id,
@@ -48,15 +63,11 @@ fn spoil(dice: &mut Dice, work: &mut Work) {
 
 // No step, or more than 16 of them.
 fn miscount(alloc: Global, dice: &mut Dice, work: &mut Work) -> Result<(), AllocError> {
-    let first = work.steps.get(0).copied();
-    work.steps = Vec::new(alloc);
-    if let Some(step) = first
-        && dice.percent(50)
-    {
-        for _ in 0..17 {
-            work.steps.push(step)?;
-        }
-    }
+    let first = work.steps.first().copied();
+    work.steps = match first {
+        Some(step) if dice.percent(50) => vec![in alloc; step; 17]?,
+        _ => Vec::new(alloc),
+    };
     Ok(())
 }
 
@@ -67,7 +78,7 @@ fn add_call(alloc: Global, dice: &mut Dice, scale: &Scale) -> Result<Call, Alloc
     if odd < 6 {
         miscount(alloc, dice, &mut work)?;
     }
-    if odd >= 3 && odd < 12 {
+    if (3..12).contains(&odd) {
         spoil(dice, &mut work);
     }
     Ok(Call::Add(work))
@@ -82,7 +93,7 @@ fn some_step(dice: &mut Dice, scale: &Scale) -> u64 {
     }
 }
 
-fn recost_call(dice: &mut Dice, scale: &Scale, held: &Vec<u64>) -> Call {
+fn recost_call(dice: &mut Dice, scale: &Scale, held: &[u64]) -> Call {
     let id = some_id(dice, held);
     let cost = if dice.percent(15) {
         dice.of(&[0, 1_000_001])
@@ -96,31 +107,35 @@ fn recost_call(dice: &mut Dice, scale: &Scale, held: &Vec<u64>) -> Call {
     }
 }
 
-// Where a run stands: how often an add comes, in a hundred; the ids of the chains held; whether a solve stands, and
-// whether the last one was refused.
+// What became of the last solve.
+#[derive(Clone, Copy, PartialEq)]
+pub enum LastSolve {
+    // none yet, or chains were changed since
+    Gone,
+    Stands,
+    Refused,
+}
+
+// Where a run stands: how often an add comes, in a hundred; the ids of the chains held; and the last solve.
 #[derive(Drop)]
 pub struct Standing {
     pub adds: u64,
     pub held: Vec<u64>,
-    pub solved: bool,
-    pub stuck: bool,
+    pub solve: LastSolve,
 }
 
 // A call other than an add.
 fn later_call(dice: &mut Dice, scale: &Scale, at: &Standing) -> Call {
-    let kind = if at.solved {
-        dice.below(20)
-    } else {
-        dice.below(9)
-    };
-    match kind {
+    let held = at.held.as_slice();
+    let kinds = if at.solve == LastSolve::Stands { 20 } else { 9 };
+    match dice.below(kinds) {
         0 => Call::DropChain {
-            id: some_id(dice, &at.held),
+            id: some_id(dice, held),
         },
-        1 | 2 => recost_call(dice, scale, &at.held),
-        3 | 4 | 5 | 6 | 7 => Call::Solve,
+        1 | 2 => recost_call(dice, scale, held),
+        3..=7 => Call::Solve,
         _ => Call::Ask {
-            id: some_id(dice, &at.held),
+            id: some_id(dice, held),
             step: some_step(dice, scale),
         },
     }
@@ -133,9 +148,9 @@ pub fn random_call(
     scale: &Scale,
     at: &Standing,
 ) -> Result<Call, AllocError> {
-    if at.stuck && dice.percent(60) {
+    if at.solve == LastSolve::Refused && dice.percent(60) {
         return Ok(Call::DropChain {
-            id: some_id(dice, &at.held),
+            id: some_id(dice, at.held.as_slice()),
         });
     }
     let alone = at.held.is_empty() && dice.percent(80);
@@ -146,69 +161,31 @@ pub fn random_call(
 }
 
 impl Standing {
-    fn without(&mut self, id: u64) {
-        let mut place = None;
-        for (k, known) in self.held.iter().enumerate() {
-            if *known == id {
-                place = Some(k);
-            }
-        }
-        if let Some(k) = place
-            && k < self.held.len()
-        {
-            let _ = self.held.remove(k);
-        }
-    }
-
     // Goes on from a call and its answer.
     pub fn follow(&mut self, call: &Call, answer: &Answer) -> Result<(), AllocError> {
-        let refused = matches!(
-            answer,
-            Answer::Refused {
-                number: _,
-                beside: _
-            }
-        );
-        match call {
-            Call::Add(work) if !refused => self.held.push(work.chain.id)?,
-            Call::DropChain { id } if !refused => self.without(*id),
+        self.solve = match (call, answer) {
+            (Call::Solve, Ok(_)) => LastSolve::Stands,
+            (Call::Solve, Err(_)) => LastSolve::Refused,
+            (Call::Ask { id: _, step: _ }, _) | (_, Err(_)) => self.solve,
+            (_, Ok(_)) => LastSolve::Gone,
+        };
+        match (call, answer) {
+            (Call::Add(work), Ok(_)) => self.held.push(work.chain.id)?,
+            (Call::DropChain { id }, Ok(_)) => self.held.retain(|held| *held != *id),
             _ => {}
-        }
-        match call {
-            Call::Ask { id: _, step: _ } => {}
-            Call::Solve => {
-                self.solved = !refused;
-                self.stuck = refused;
-            }
-            _ if refused => {}
-            _ => {
-                self.solved = false;
-                self.stuck = false;
-            }
         }
         Ok(())
     }
 }
 
 // What the second analyser answers.
-pub fn answer_of(alloc: Global, panel: &mut Panel, call: &Call) -> Result<Answer, AllocError> {
-    match call {
-        Call::Add(work) => panel.add(alloc, work.chain, work.steps.as_slice()),
-        Call::DropChain { id } => Ok(panel.drop_chain(*id)),
-        Call::Recost { id, step, cost } => Ok(panel.recost(*id, *step, *cost)),
-        Call::Solve => panel.solve(alloc),
-        Call::Ask { id, step } => Ok(panel.ask(*id, *step)),
-    }
-}
-
-// A call in words, for a difference.
-pub fn words_of(alloc: Global, call: &Call) -> Result<Vec<u8>, AllocError> {
-    let line = match call {
-        Call::Add(work) => return work.text(alloc),
-        Call::DropChain { id } => format!(in alloc; "drop,{id}\n")?,
-        Call::Recost { id, step, cost } => format!(in alloc; "recost,{id},{step},{cost}\n")?,
-        Call::Solve => format!(in alloc; "solve\n")?,
-        Call::Ask { id, step } => format!(in alloc; "ask,{id},{step}\n")?,
+pub fn answer_of(panel: &mut Panel, call: &Call) -> Result<Answer, AllocError> {
+    let answer = match call {
+        Call::Add(work) => panel.add(work.chain, work.steps.as_slice())?,
+        Call::DropChain { id } => panel.drop_chain(*id),
+        Call::Recost { id, step, cost } => panel.recost(*id, *step, *cost),
+        Call::Solve => panel.solve()?,
+        Call::Ask { id, step } => panel.ask(*id, *step),
     };
-    line.as_bytes().to_vec(alloc)
+    Ok(answer.map_err(Refused::from))
 }

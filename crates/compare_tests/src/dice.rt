@@ -1,4 +1,6 @@
 // A seeded generator of numbers: the same seed gives the same run.
+// It keeps no allocator, which stands beside it where memory is taken: most of what is rolled takes none.
+ghost use Rattle.std.specs.Prelude.{◌<◌, length};
 
 #[derive(Drop)]
 pub struct Dice {
@@ -13,15 +15,17 @@ impl Dice {
 
     fn roll(&mut self) -> u64 {
         let mut x = self.state;
-        x = x ^ (x << 13);
-        x = x ^ (x >> 7);
-        x = x ^ (x << 17);
+        x ^= x << 13;
+        x ^= x >> 7;
+        x ^= x << 17;
         self.state = x;
         x.wrapping_mul(0x2545_F491_4F6C_DD1D) >> 33
     }
 
     // A number below `count`, or 0 where that is 0.
-    pub fn below(&mut self, count: u64) -> u64 {
+    pub fn below(&mut self, count: u64) -> u64
+        ensures { 0 < count → result < count }
+    {
         let x = self.roll();
         if count == 0 { 0 } else { x % count }
     }
@@ -37,14 +41,17 @@ impl Dice {
         self.below(100) < times
     }
 
-    // One of these numbers.
-    pub fn of(&mut self, numbers: &[u64]) -> u64 {
-        let k = self.place(numbers.len());
-        numbers.get(k).copied().unwrap_or(0)
+    // One of these.
+    pub fn of<T: Copy>(&mut self, items: &[T]) -> T
+        requires { 0 < length items.now }
+    {
+        items[self.place(items.len())]
     }
 
     // A place in a list of this length, or 0 where it is empty.
-    pub fn place(&mut self, len: usize) -> usize {
+    pub fn place(&mut self, len: usize) -> usize
+        ensures { 0 < len → result < len }
+    {
         self.below(len as u64) as usize
     }
 }

@@ -1,16 +1,18 @@
-// The analyser itself, called through its public calls, with its answers as the second analyser gives them.
+// The analyser itself, called through its public calls.
+use crate::answer::{Answer, Refused};
 use crate::calls::Call;
 use crate::sheet::Work;
 use edf::EarliestDeadline;
 use fixed::FixedPriority;
-use law::{Refusal, Timing};
+use law::Refusal;
 use mixed::{Letters, Mixed};
 use oracle_tests::node::Letter;
-use oracle_tests::panel::Answer;
+use oracle_tests::panel::Reply;
 use plan::Plan;
 use records::{Chain, EndToEndDeadline, LocalDeadline, RecordFault};
 use report::Verdict;
 use std::alloc::{AllocError, Global};
+use std::collections::BTreeMap;
 
 pub type ProductPlan = Plan<Mixed<EarliestDeadline, FixedPriority>>;
 
@@ -18,62 +20,24 @@ pub type ProductPlan = Plan<Mixed<EarliestDeadline, FixedPriority>>;
 pub const ROOM: usize = 4096;
 
 fn small(number: u64) -> u32 {
-    match u32::try_from(number) {
-        Ok(same) => same,
-        Err(_) => u32::MAX,
+    u32::try_from(number).unwrap_or(u32::MAX)
+}
+
+// A function and no `From`: both types are of other crates.
+fn letter_of(letter: Letter) -> mixed::Letter {
+    match letter {
+        Letter::E => mixed::Letter::E,
+        Letter::P => mixed::Letter::P,
     }
 }
 
-// A plan with the letters of nodes 1, 2, …
-pub fn open(letters: &Vec<Letter>) -> Result<ProductPlan, RecordFault> {
+// A plan with these letters.
+pub fn open(letters: &BTreeMap<u64, Letter>) -> Result<ProductPlan, RecordFault> {
     let mut all = Letters::new();
-    let mut node: u32 = 0;
-    for letter in letters.iter() {
-        node = node.saturating_add(1);
-        all = match *letter {
-            Letter::E => all.with(node, mixed::Letter::E)?,
-            Letter::P => all.with(node, mixed::Letter::P)?,
-        };
+    for (node, letter) in letters {
+        all = all.with(small(*node), letter_of(*letter))?;
     }
     Ok(Plan::open(Mixed::new(EarliestDeadline, FixedPriority, all)))
-}
-
-fn refused(why: &Refusal) -> Answer {
-    let beside = match why {
-        Refusal::Field(fault) => fault.place,
-        Refusal::NothingCarries { rounds } => *rounds,
-        _ => 0,
-    };
-    Answer::Refused {
-        number: u64::from(why.number()),
-        beside: u64::from(beside),
-    }
-}
-
-fn done(res: Result<(), Refusal>) -> Answer {
-    match res {
-        Ok(()) => Answer::Done,
-        Err(why) => refused(&why),
-    }
-}
-
-fn solved(res: Result<u32, Refusal>) -> Answer {
-    match res {
-        Ok(rounds) => Answer::Solved {
-            rounds: u64::from(rounds),
-        },
-        Err(why) => refused(&why),
-    }
-}
-
-fn told(res: Result<Timing, Refusal>) -> Answer {
-    match res {
-        Ok(timing) => Answer::Told {
-            jitter: u64::from(timing.jitter),
-            response: u64::from(timing.response),
-        },
-        Err(why) => refused(&why),
-    }
 }
 
 fn chain_of(work: &Work) -> Result<Chain, RecordFault> {
@@ -88,41 +52,51 @@ fn chain_of(work: &Work) -> Result<Chain, RecordFault> {
 }
 
 fn steps_of(alloc: Global, work: &Work) -> Result<Vec<records::StepFields>, AllocError> {
-    let mut steps = Vec::new(alloc);
-    for step in work.steps.iter() {
-        steps.push(records::StepFields {
-            node: small(step.node),
-            cost: small(step.cost),
-            local: LocalDeadline {
-                ticks: small(step.local),
-            },
-            delay: small(step.delay),
-            blocking: small(step.blocking),
-            priority: small(step.priority),
-        })?;
-    }
-    Ok(steps)
+    let steps = work.steps.iter().map(|step| records::StepFields {
+        node: small(step.node),
+        cost: small(step.cost),
+        local: LocalDeadline {
+            ticks: small(step.local),
+        },
+        delay: small(step.delay),
+        blocking: small(step.blocking),
+        priority: small(step.priority),
+    });
+    steps.collect(alloc)
 }
 
-fn add(alloc: Global, plan: &mut ProductPlan, work: &Work) -> Result<Answer, AllocError> {
+fn add(
+    alloc: Global,
+    plan: &mut ProductPlan,
+    work: &Work,
+) -> Result<Result<(), Refusal>, AllocError> {
     let steps = steps_of(alloc, work)?;
     match chain_of(work) {
-        Ok(chain) => Ok(done(plan.add(chain, steps.as_slice()))),
-        Err(fault) => Ok(refused(&Refusal::Field(fault))),
+        Ok(chain) => Ok(plan.add(chain, steps.as_slice())),
+        Err(fault) => Ok(Err(Refusal::Field(fault))),
     }
 }
 
 // Makes a call.
 pub fn perform(alloc: Global, plan: &mut ProductPlan, call: &Call) -> Result<Answer, AllocError> {
-    match call {
-        Call::Add(work) => add(alloc, plan, work),
-        Call::DropChain { id } => Ok(done(plan.drop_chain(small(*id)))),
-        Call::Recost { id, step, cost } => {
-            Ok(done(plan.recost(small(*id), small(*step), small(*cost))))
+    let answer = match call {
+        Call::Add(work) => add(alloc, plan, work)?.map(|()| Reply::Done),
+        Call::DropChain { id } => plan.drop_chain(small(*id)).map(|()| Reply::Done),
+        Call::Recost { id, step, cost } => plan
+            .recost(small(*id), small(*step), small(*cost))
+            .map(|()| Reply::Done),
+        Call::Solve => plan.solve().map(|rounds| Reply::Solved {
+            rounds: u64::from(rounds),
+        }),
+        Call::Ask { id, step } => {
+            plan.ask(small(*id), small(*step))
+                .map(|timing| Reply::Told {
+                    jitter: u64::from(timing.jitter),
+                    response: u64::from(timing.response),
+                })
         }
-        Call::Solve => Ok(solved(plan.solve())),
-        Call::Ask { id, step } => Ok(told(plan.ask(small(*id), small(*step)))),
-    }
+    };
+    Ok(answer.map_err(Refused::from))
 }
 
 // The bytes of the listing, or its refusal.
@@ -133,26 +107,22 @@ pub fn listing(alloc: Global, plan: &ProductPlan) -> Result<Vec<u8>, AllocError>
             bytes.truncate(len);
             Ok(bytes)
         }
-        Err(why) => {
-            let number = why.number();
-            let line = format!(in alloc; "refused,{number}\n")?;
-            line.as_bytes().to_vec(alloc)
-        }
+        Err(why) => Ok(format!(in alloc; "refused,{}\n", why.number())?.into_bytes()),
     }
 }
 
 // Whether a verdict is that of the bytes.
 fn verdict_fits(verdict: &Verdict, bytes: &[u8]) -> bool {
+    let nothing_carries = bytes.starts_with(b"refused,10,");
     match verdict {
         Verdict::Listed => bytes.starts_with(b"rounds,"),
-        Verdict::NothingCarries { rounds: _ } => bytes.starts_with(b"refused,10,"),
-        Verdict::Faulty(_) => {
-            bytes.starts_with(b"refused,") && !bytes.starts_with(b"refused,10,")
-        }
+        Verdict::NothingCarries { rounds: _ } => nothing_carries,
+        Verdict::Faulty(_) => bytes.starts_with(b"refused,") && !nothing_carries,
     }
 }
 
-// What is printed of a text, into a buffer of this room. Empty if it is refused, or if its verdict is another.
+// What is printed of a text, into a buffer of this room. If it is refused, or its verdict is another, then this is
+// said, in words that no analyser prints.
 pub fn printed(alloc: Global, text: &[u8], room: usize) -> Result<Vec<u8>, AllocError> {
     let mut bytes = vec![in alloc; 7u8; room]?;
     match report::report(text, bytes.as_mut_slice()) {
@@ -161,27 +131,16 @@ pub fn printed(alloc: Global, text: &[u8], room: usize) -> Result<Vec<u8>, Alloc
             if verdict_fits(&report.verdict, bytes.as_slice()) {
                 Ok(bytes)
             } else {
-                Ok(Vec::new(alloc))
+                b"another verdict\n".to_vec(alloc)
             }
         }
-        Err(_) => Ok(Vec::new(alloc)),
+        Err(_) => b"a buffer too short\n".to_vec(alloc),
     }
 }
 
 // Whether a buffer one byte too short is refused with 20 and left as it was.
 pub fn refuses_short(alloc: Global, text: &[u8], len: usize) -> Result<bool, AllocError> {
     let mut short = vec![in alloc; 7u8; len.saturating_sub(1)]?;
-    let refused = match report::report(text, short.as_mut_slice()) {
-        Ok(_) => false,
-        Err(why) => why.number() == 20,
-    };
-    Ok(refused && all_sevens(short.as_slice()))
-}
-
-fn all_sevens(bytes: &[u8]) -> bool {
-    let mut sevens = true;
-    for byte in bytes.iter() {
-        sevens = sevens && *byte == 7;
-    }
-    sevens
+    let res = report::report(text, short.as_mut_slice());
+    Ok(res.is_err_and(|why| why.number() == 20) && short.iter().all(|byte| *byte == 7))
 }

@@ -1,13 +1,14 @@
 // Random runs of calls on one plan, and what both analysers answer.
-use crate::calls::{Call, Standing, answer_of, random_call, words_of};
+use crate::calls::{Call, LastSolve, Standing, answer_of, random_call};
+use crate::comparison::Comparison;
 use crate::dice::Dice;
 use crate::product;
 use crate::product::ProductPlan;
 use crate::sheet::{Scale, mixture, random_letters};
-use crate::tally::Tally;
-use oracle_tests::node::Letter;
-use oracle_tests::panel::{NodeLetter, Panel};
+use crate::tally::count;
+use oracle_tests::panel::Panel;
 use std::alloc::{AllocError, Global};
+use std::fmt::Write;
 use std::io;
 
 // Both analysers on the same run, where it stands, and the calls so far in words.
@@ -16,20 +17,7 @@ struct Pair {
     plan: ProductPlan,
     panel: Panel,
     at: Standing,
-    words: Vec<u8>,
-}
-
-fn node_letters(alloc: Global, letters: &Vec<Letter>) -> Result<Vec<NodeLetter>, AllocError> {
-    let mut given = Vec::new(alloc);
-    let mut node: u64 = 0;
-    for letter in letters.iter() {
-        node = node.saturating_add(1);
-        given.push(NodeLetter {
-            node,
-            letter: *letter,
-        })?;
-    }
-    Ok(given)
+    words: String,
 }
 
 // How the numbers of a run are made, how many calls it has, and how often an add comes.
@@ -83,102 +71,91 @@ fn filling_script(dice: &mut Dice) -> Script {
 }
 
 // The second analyser's listing, or its refusal.
-fn listing_of(alloc: Global, panel: &Panel) -> Result<Vec<u8>, AllocError> {
-    match panel.listing(alloc)? {
-        Some(bytes) => Ok(bytes),
-        None => b"refused,9\n".to_vec(alloc),
+fn listing_of(alloc: Global, panel: &Panel) -> Result<String, AllocError> {
+    match panel.listing()? {
+        Ok(text) => Ok(text),
+        Err(why) => format!(in alloc; "refused,{}\n", why.number()),
     }
 }
 
-impl Pair {
+impl Comparison {
     // Compares the listings, with refusal 9 where no solve stands.
-    fn compare_listing(&mut self, rt: &HostRuntime, tally: &mut Tally) -> io::Result<bool> {
-        let alloc = rt.alloc();
-        let product = product::listing(alloc, &self.plan)?;
-        let oracle = listing_of(alloc, &self.panel)?;
-        tally.call_listings = tally.call_listings.saturating_add(1);
-        let same = product == oracle;
+    fn compare_listing(&mut self, pair: &Pair) -> io::Result<bool> {
+        let alloc = self.rt.alloc();
+        let product = product::listing(alloc, &pair.plan)?;
+        let oracle = listing_of(alloc, &pair.panel)?;
+        count(&mut self.tally.call_listings);
+        let same = product.as_slice() == oracle.as_bytes();
         if !same {
-            let words = self.words.as_slice();
-            tally.differ(rt, words, product.as_slice(), oracle.as_slice())?;
+            self.differ(pair.words.as_bytes(), product.as_slice(), oracle.as_bytes())?;
         }
         Ok(same)
     }
 
     // Makes one call on both; whether they answered alike.
-    fn compare_call(
-        &mut self,
-        rt: &HostRuntime,
-        tally: &mut Tally,
-        call: &Call,
-    ) -> io::Result<bool> {
-        let alloc = rt.alloc();
-        self.words
-            .extend_from_slice(words_of(alloc, call)?.as_slice())?;
-        let product = product::perform(alloc, &mut self.plan, call)?;
-        let oracle = answer_of(alloc, &mut self.panel, call)?;
-        tally.count_answer(&oracle);
+    fn compare_call(&mut self, pair: &mut Pair, call: &Call) -> io::Result<bool> {
+        let alloc = self.rt.alloc();
+        write!(pair.words, "{call}")?;
+        let product = product::perform(alloc, &mut pair.plan, call)?;
+        let oracle = answer_of(&mut pair.panel, call)?;
+        self.tally.count_answer(&oracle)?;
         if product != oracle {
             let one = format!(in alloc; "{product:?}\n")?;
             let other = format!(in alloc; "{oracle:?}\n")?;
-            tally.differ(rt, self.words.as_slice(), one.as_bytes(), other.as_bytes())?;
+            self.differ(pair.words.as_bytes(), one.as_bytes(), other.as_bytes())?;
             return Ok(false);
         }
-        self.at.follow(call, &oracle)?;
+        pair.at.follow(call, &oracle)?;
         Ok(true)
     }
 
     // Makes the calls of a script, up to the first difference.
-    fn play(
-        &mut self,
-        rt: &HostRuntime,
-        dice: &mut Dice,
-        tally: &mut Tally,
-        script: &Script,
-    ) -> io::Result<()> {
+    fn play(&mut self, pair: &mut Pair, script: &Script) -> io::Result<()> {
         for _ in 0..script.calls {
-            let call = random_call(rt.alloc(), dice, &script.scale, &self.at)?;
-            if !self.compare_call(rt, tally, &call)? {
+            let alloc = self.rt.alloc();
+            let call = random_call(alloc, &mut self.dice, &script.scale, &pair.at)?;
+            if !self.compare_call(pair, &call)? {
                 return Ok(());
             }
             let solves = matches!(call, Call::Solve);
-            if (solves || dice.percent(5)) && !self.compare_listing(rt, tally)? {
+            if (solves || self.dice.percent(5)) && !self.compare_listing(pair)? {
                 return Ok(());
             }
         }
         Ok(())
     }
-}
 
-// One run on a new plan.
-pub fn one_run(
-    rt: &HostRuntime,
-    dice: &mut Dice,
-    tally: &mut Tally,
-    filling: bool,
-) -> io::Result<()> {
-    let alloc = rt.alloc();
-    let script = if filling {
-        filling_script(dice)
-    } else {
-        usual_script(dice)
-    };
-    let earliest = mixture(dice);
-    let letters = random_letters(alloc, dice, script.scale.nodes, earliest)?;
-    let Ok(plan) = product::open(&letters) else {
-        return tally.differ(rt, b"open\n", b"refused\n", b"done\n");
-    };
-    let mut pair = Pair {
-        plan,
-        panel: Panel::new(alloc, node_letters(alloc, &letters)?),
-        at: Standing {
-            adds: script.adds,
-            held: Vec::new(alloc),
-            solved: false,
-            stuck: false,
-        },
-        words: Vec::new(alloc),
-    };
-    tally.runs = tally.runs.saturating_add(1);
-    pair.play(rt, dice, tally, &script)
+    // One run on a new plan.
+    fn one_run(&mut self, filling: bool) -> io::Result<()> {
+        let alloc = self.rt.alloc();
+        let script = if filling {
+            filling_script(&mut self.dice)
+        } else {
+            usual_script(&mut self.dice)
+        };
+        let earliest = mixture(&mut self.dice);
+        let letters = random_letters(alloc, &mut self.dice, script.scale.nodes, earliest)?;
+        let Ok(plan) = product::open(&letters) else {
+            return self.differ(b"open\n", b"refused\n", b"done\n");
+        };
+        let mut pair = Pair {
+            plan,
+            panel: Panel::new(alloc, letters),
+            at: Standing {
+                adds: script.adds,
+                held: Vec::new(alloc),
+                solve: LastSolve::Gone,
+            },
+            words: String::new(alloc),
+        };
+        count(&mut self.tally.runs);
+        self.play(&mut pair, &script)
+    }
+
+    pub fn compare_runs(&mut self) -> io::Result<()> {
+        for k in 0..1500u64 {
+            self.one_run(k % 20 == 0)?;
+        }
+        Ok(())
+    }
 }

@@ -3,6 +3,8 @@ use crate::dice::Dice;
 use oracle_tests::fields::{ChainFields, StepFields};
 use oracle_tests::node::Letter;
 use std::alloc::{AllocError, Global};
+use std::collections::BTreeMap;
+use std::fmt;
 
 // A chain with its steps.
 #[derive(Drop)]
@@ -14,7 +16,7 @@ pub struct Work {
 // The letters of nodes 1, 2, … and the chains on them.
 #[derive(Drop)]
 pub struct Sheet {
-    pub letters: Vec<Letter>,
+    pub letters: BTreeMap<u64, Letter>,
     pub works: Vec<Work>,
 }
 
@@ -69,22 +71,24 @@ pub fn mixture(dice: &mut Dice) -> u64 {
     dice.of(&[0, 50, 50, 50, 100])
 }
 
+fn random_letter(dice: &mut Dice, earliest: u64) -> Letter {
+    if dice.percent(earliest) {
+        Letter::E
+    } else {
+        Letter::P
+    }
+}
+
 // The letters of so many nodes, as often E as `earliest` says.
 pub fn random_letters(
     alloc: Global,
     dice: &mut Dice,
     nodes: u64,
     earliest: u64,
-) -> Result<Vec<Letter>, AllocError> {
-    let mut given = Vec::new(alloc);
-    for _ in 0..nodes {
-        given.push(if dice.percent(earliest) {
-            Letter::E
-        } else {
-            Letter::P
-        })?;
-    }
-    Ok(given)
+) -> Result<BTreeMap<u64, Letter>, AllocError> {
+    (1..=nodes)
+        .map(|node| (node, random_letter(dice, earliest)))
+        .collect(alloc)
 }
 
 // A number up to `most`, as often as extras come, else 0.
@@ -99,7 +103,7 @@ fn extra(dice: &mut Dice, scale: &Scale, most: u64) -> u64 {
 // One step of a chain of this period. `share` is the part of a node's work that is aimed at, in thousandths.
 fn random_step(dice: &mut Dice, scale: &Scale, period: u64, share: u64) -> StepFields {
     let aimed = period.saturating_mul(share) / 1000;
-    let priorities = dice.of(&[1, 3, 3, 7, 255]);
+    let priorities: u64 = dice.of(&[1, 3, 3, 7, 255]);
     StepFields {
         node: dice.between(1, scale.nodes),
         cost: dice.between(1, aimed.saturating_mul(2).max(1)),
@@ -123,10 +127,9 @@ pub fn random_chain(
     let share = scale.load.saturating_mul(10).saturating_mul(scale.nodes) / rows.max(1);
     let reach = dice.between(1, scale.slack.max(1));
     let late = dice.of(&[1, 1, 1, 3]);
-    let mut steps = Vec::new(alloc);
-    for _ in 0..count {
-        steps.push(random_step(dice, scale, period, share.min(1000)))?;
-    }
+    let steps = (0..count)
+        .map(|_| random_step(dice, scale, period, share.min(1000)))
+        .collect(alloc)?;
     let chain = ChainFields {
         id,
         period,
@@ -147,7 +150,7 @@ pub fn random_sheet(
     earliest: u64,
 ) -> Result<Sheet, AllocError> {
     let mut works = Vec::new(alloc);
-    let mut id = dice.of(&[0, 6, 65_000]);
+    let mut id: u64 = dice.of(&[0, 6, 65_000]);
     for _ in 0..scale.chains {
         id = id.saturating_add(dice.between(1, 9));
         works.push(random_chain(alloc, dice, scale, id)?)?;
@@ -161,57 +164,30 @@ pub fn random_sheet(
 impl Work {
     // The work of this chain on a node, in millionths of its time.
     fn load_on(&self, node: u64) -> u64 {
-        let mut load: u64 = 0;
-        for step in self.steps.iter() {
-            if step.node == node {
-                let part = step.cost.saturating_mul(1_000_000);
-                load = load.saturating_add(part / self.chain.period.max(1));
-            }
-        }
-        load
+        let period = self.chain.period.max(1);
+        let there = self.steps.iter().filter(|step| step.node == node);
+        there
+            .map(|step| step.cost.saturating_mul(1_000_000) / period)
+            .fold(0, |load: u64, part| load.saturating_add(part))
     }
 
     fn stretch(&mut self, times: u64) {
         self.chain.period = self.chain.period.saturating_mul(times);
         self.chain.deadline = self.chain.deadline.saturating_mul(times);
     }
-
-    // The lines of this chain and of its steps.
-    fn lines(&self, alloc: Global, lines: &mut Vec<Vec<u8>>) -> Result<(), AllocError> {
-        lines.push(chain_line(alloc, &self.chain)?)?;
-        for step in self.steps.iter() {
-            lines.push(step_line(alloc, step)?)?;
-        }
-        Ok(())
-    }
-}
-
-impl Work {
-    // The chain as it stands in a text.
-    pub fn text(&self, alloc: Global) -> Result<Vec<u8>, AllocError> {
-        let mut lines = Vec::new(alloc);
-        self.lines(alloc, &mut lines)?;
-        text_of(alloc, &lines)
-    }
 }
 
 impl Sheet {
     // The work on a node, in millionths of its time.
     fn load_on(&self, node: u64) -> u64 {
-        let mut load: u64 = 0;
-        for work in self.works.iter() {
-            load = load.saturating_add(work.load_on(node));
-        }
-        load
+        let loads = self.works.iter().map(|work| work.load_on(node));
+        loads.fold(0, |load: u64, part| load.saturating_add(part))
     }
 
     // The work on the node that has the most, in millionths of its time.
     pub fn heaviest(&self) -> u64 {
-        let mut most: u64 = 0;
-        for node in 1..9u64 {
-            most = most.max(self.load_on(node));
-        }
-        most
+        let loads = (1..9u64).map(|node| self.load_on(node));
+        loads.max().unwrap_or(0)
     }
 
     // Makes every period and end-to-end deadline so many times as long.
@@ -223,70 +199,57 @@ impl Sheet {
 
     // The last chain gets the id of the first.
     pub fn repeat_id(&mut self) {
-        let first = match self.works.get(0) {
-            Some(work) => work.chain.id,
-            None => 1,
-        };
+        let first = self.works.first().map_or(1, |work| work.chain.id);
         if let Some(work) = self.works.last_mut() {
             work.chain.id = first;
         }
     }
+}
 
-    fn node_lines(&self, alloc: Global, lines: &mut Vec<Vec<u8>>) -> Result<(), AllocError> {
-        let mut node: u64 = 0;
-        for letter in self.letters.iter() {
-            node = node.saturating_add(1);
-            lines.push(node_line(alloc, node, *letter)?)?;
+// The line of a node, without its line feed.
+#[derive(Clone, Copy)]
+pub struct NodeLine {
+    pub node: u64,
+    pub letter: Letter,
+}
+
+impl fmt::Display for NodeLine {
+    fn fmt<W: fmt::Write>(&self, f: &mut fmt::Formatter<W>) -> fmt::Result {
+        write!(f, "node,{},{}", self.node, self.letter)
+    }
+}
+
+// A chain's text.
+impl fmt::Display for Work {
+    fn fmt<W: fmt::Write>(&self, f: &mut fmt::Formatter<W>) -> fmt::Result {
+        writeln!(f, "{}", self.chain)?;
+        for step in self.steps.iter() {
+            writeln!(f, "{step}")?;
         }
         Ok(())
     }
+}
 
-    // The lines of the table, without their line feeds.
-    pub fn lines(&self, alloc: Global) -> Result<Vec<Vec<u8>>, AllocError> {
-        let mut lines = Vec::new(alloc);
-        self.node_lines(alloc, &mut lines)?;
-        for work in self.works.iter() {
-            work.lines(alloc, &mut lines)?;
+// The text of a table's letters.
+#[derive(Clone, Copy)]
+struct NodeLines<'a>(&'a BTreeMap<u64, Letter>);
+
+impl fmt::Display for NodeLines<'_> {
+    fn fmt<W: fmt::Write>(&self, f: &mut fmt::Formatter<W>) -> fmt::Result {
+        for (node, letter) in self.0 {
+            writeln!(f, "node,{node},{letter}")?;
         }
-        Ok(lines)
+        Ok(())
     }
 }
 
-pub fn node_line(alloc: Global, node: u64, letter: Letter) -> Result<Vec<u8>, AllocError> {
-    let word = match letter {
-        Letter::E => "E",
-        Letter::P => "P",
-    };
-    let line = format!(in alloc; "node,{node},{word}")?;
-    line.as_bytes().to_vec(alloc)
-}
-
-fn chain_line(alloc: Global, chain: &ChainFields) -> Result<Vec<u8>, AllocError> {
-    let id = chain.id;
-    let period = chain.period;
-    let deadline = chain.deadline;
-    let jitter = chain.arrival_jitter;
-    let line = format!(in alloc; "chain,{id},{period},{deadline},{jitter}")?;
-    line.as_bytes().to_vec(alloc)
-}
-
-pub fn step_line(alloc: Global, step: &StepFields) -> Result<Vec<u8>, AllocError> {
-    let node = step.node;
-    let cost = step.cost;
-    let local = step.local;
-    let delay = step.delay;
-    let blocking = step.blocking;
-    let priority = step.priority;
-    let line = format!(in alloc; "step,{node},{cost},{local},{delay},{blocking},{priority}")?;
-    line.as_bytes().to_vec(alloc)
-}
-
-// The text of some lines, each with its line feed.
-pub fn text_of(alloc: Global, lines: &Vec<Vec<u8>>) -> Result<Vec<u8>, AllocError> {
-    let mut text = Vec::new(alloc);
-    for line in lines.iter() {
-        text.extend_from_slice(line.as_slice())?;
-        text.push(10u8)?;
+// A table's text.
+impl fmt::Display for Sheet {
+    fn fmt<W: fmt::Write>(&self, f: &mut fmt::Formatter<W>) -> fmt::Result {
+        write!(f, "{}", NodeLines(&self.letters))?;
+        for work in self.works.iter() {
+            write!(f, "{work}")?;
+        }
+        Ok(())
     }
-    Ok(text)
 }

@@ -1,4 +1,6 @@
-// The plain fields of chains and steps, and their ranges.
+// The plain fields of chains and steps, their ranges, and the lines of a text that they make.
+use std::fmt;
+use std::ops::RangeInclusive;
 
 #[derive(Clone, Copy, PartialEq, Debug)]
 pub struct ChainFields {
@@ -18,89 +20,71 @@ pub struct StepFields {
     pub priority: u64,
 }
 
-// The least and the largest number that a field may hold.
-#[derive(Clone, Copy)]
-struct Span {
-    least: u64,
-    most: u64,
-}
-
 const MILLION: u64 = 1_000_000;
 
-const ID: Span = Span {
-    least: 1,
-    most: 65_535,
-};
+const NODES: u64 = 8;
 
-const NODE: Span = Span { least: 1, most: 8 };
-
-const FROM_ONE: Span = Span {
-    least: 1,
-    most: MILLION,
-};
-
-const FROM_ZERO: Span = Span {
-    least: 0,
-    most: MILLION,
-};
-
-const PRIORITY: Span = Span {
-    least: 0,
-    most: 255,
-};
-
-// The place, from 1, of the first value outside its span.
-fn first_outside(values: &[u64], spans: &[Span]) -> Option<u64> {
-    let mut place: u64 = 0;
-    for (value, span) in values.iter().zip(spans.iter()) {
-        place = place.saturating_add(1);
-        if *value < span.least || *value > span.most {
-            return Some(place);
-        }
-    }
-    None
+// The place, from 1, of the first field that is outside its range.
+fn first_outside(fields: &[(u64, RangeInclusive<u64>)]) -> Option<u64> {
+    let before = fields
+        .iter()
+        .position(|(value, range)| !range.contains(value))?;
+    Some((before as u64).saturating_add(1))
 }
 
 // Whether a cost is one that a step may have.
 pub fn is_cost(cost: u64) -> bool {
-    cost >= FROM_ONE.least && cost <= FROM_ONE.most
+    (1..=MILLION).contains(&cost)
 }
 
 // Whether a number names a node.
 pub fn is_node(node: u64) -> bool {
-    node >= NODE.least && node <= NODE.most
+    (1..=NODES).contains(&node)
 }
 
 impl ChainFields {
     // The place of the first field out of its range.
     pub fn out_of_range(&self) -> Option<u64> {
-        let values = [self.id, self.period, self.deadline, self.arrival_jitter];
-        first_outside(&values, &[ID, FROM_ONE, FROM_ONE, FROM_ZERO])
+        first_outside(&[
+            (self.id, 1..=65_535),
+            (self.period, 1..=MILLION),
+            (self.deadline, 1..=MILLION),
+            (self.arrival_jitter, 0..=MILLION),
+        ])
     }
 }
 
 impl StepFields {
     // The place of the first field out of its range.
     pub fn out_of_range(&self) -> Option<u64> {
-        let values = [
-            self.node,
-            self.cost,
-            self.local,
-            self.delay,
-            self.blocking,
-            self.priority,
-        ];
-        let spans = [NODE, FROM_ONE, FROM_ONE, FROM_ZERO, FROM_ZERO, PRIORITY];
-        first_outside(&values, &spans)
+        first_outside(&[
+            (self.node, 1..=NODES),
+            (self.cost, 1..=MILLION),
+            (self.local, 1..=MILLION),
+            (self.delay, 0..=MILLION),
+            (self.blocking, 0..=MILLION),
+            (self.priority, 0..=255),
+        ])
     }
 }
 
 // The place of the first field out of range in the first step that has one.
 pub fn first_fault(steps: &[StepFields]) -> Option<u64> {
-    for step in steps.iter() {
-        if let Some(place) = step.out_of_range() {
-            return Some(place);
-        }
+    steps.iter().find_map(|step| step.out_of_range())
+}
+
+// The line of a chain, without its line feed.
+impl fmt::Display for ChainFields {
+    fn fmt<W: fmt::Write>(&self, f: &mut fmt::Formatter<W>) -> fmt::Result {
+        write!(f, "chain,{},{}", self.id, self.period)?;
+        write!(f, ",{},{}", self.deadline, self.arrival_jitter)
     }
-    None
+}
+
+// The line of a step, without its line feed.
+impl fmt::Display for StepFields {
+    fn fmt<W: fmt::Write>(&self, f: &mut fmt::Formatter<W>) -> fmt::Result {
+        write!(f, "step,{},{},{}", self.node, self.cost, self.local)?;
+        write!(f, ",{},{},{}", self.delay, self.blocking, self.priority)
+    }
 }

@@ -1,6 +1,7 @@
 // Worst-case response times on one node.
-use crate::releases::{NO_DEADLINE, Source, least_window};
+use crate::releases::{Source, least_window};
 use std::alloc::{AllocError, Global};
+use std::fmt;
 
 const BUSY_LIMIT: u64 = 1_000_000;
 
@@ -13,6 +14,15 @@ const JITTER_LIMIT: u64 = 2_000_000;
 pub enum Letter {
     E,
     P,
+}
+
+impl fmt::Display for Letter {
+    fn fmt<W: fmt::Write>(&self, f: &mut fmt::Formatter<W>) -> fmt::Result {
+        match self {
+            Letter::E => write!(f, "E"),
+            Letter::P => write!(f, "P"),
+        }
+    }
 }
 
 // A row as its node sees it, at its release jitter.
@@ -34,51 +44,41 @@ impl Load {
 
 // The releases of those rows that have at least this priority.
 fn sources_from(alloc: Global, loads: &[Load], priority: u64) -> Result<Vec<Source>, AllocError> {
-    let mut sources = Vec::new(alloc);
-    for load in loads.iter() {
-        if load.priority >= priority {
-            sources.push(load.source())?;
-        }
-    }
-    Ok(sources)
+    loads
+        .iter()
+        .filter(|load| load.priority >= priority)
+        .map(|load| load.source())
+        .collect(alloc)
 }
 
 // Whether every release jitter is one that a node rule takes.
 fn jitters_fit(asked: &Load, others: &[Load]) -> bool {
-    let mut fit = asked.jitter <= JITTER_LIMIT;
-    for load in others.iter() {
-        fit = fit && load.jitter <= JITTER_LIMIT;
-    }
-    fit
+    asked.jitter <= JITTER_LIMIT && others.iter().all(|load| load.jitter <= JITTER_LIMIT)
 }
 
 // The node's busy period: every row of the node counts.
 fn busy_period(alloc: Global, asked: &Load, others: &[Load]) -> Result<Option<u64>, AllocError> {
     let mut sources = sources_from(alloc, others, 0)?;
     sources.push(asked.source())?;
-    Ok(least_window(0, &mut sources, NO_DEADLINE, BUSY_LIMIT))
+    Ok(least_window(0, sources.as_mut_slice(), None, BUSY_LIMIT))
 }
 
 // Fixed priorities: each job of the row that starts inside the busy period, behind the jobs of its rivals.
-fn fixed_priority(asked: &Load, rivals: &mut Vec<Source>, busy: u64) -> Option<u64> {
+fn fixed_priority(asked: &Load, rivals: &mut [Source], busy: u64) -> Option<u64> {
     let mut worst: u64 = 0;
-    let mut start: u64 = 0;
     let mut own = asked.blocking;
-    for _ in 0..busy {
-        if start >= busy {
-            break;
-        }
+    for earlier in 0..busy.div_ceil(asked.period.max(1)) {
+        let start = asked.period.saturating_mul(earlier);
         own = own.saturating_add(asked.cost);
-        let done = least_window(own, rivals, NO_DEADLINE, COMPLETION_LIMIT)?;
+        let done = least_window(own, rivals, None, COMPLETION_LIMIT)?;
         worst = worst.max(asked.jitter.saturating_add(done).saturating_sub(start));
-        start = start.saturating_add(asked.period);
     }
     Some(worst)
 }
 
 // Earliest deadline: a job of the row released at each instant of the busy period, with the row's own earlier jobs a
 // period apart before it, behind the jobs of its rivals that are due no later than it.
-fn earliest_deadline(asked: &Load, rivals: &mut Vec<Source>, busy: u64) -> Option<u64> {
+fn earliest_deadline(asked: &Load, rivals: &mut [Source], busy: u64) -> Option<u64> {
     let mut worst: u64 = 0;
     let mut own = asked.blocking;
     let mut one_more_at: u64 = 0;
@@ -88,7 +88,7 @@ fn earliest_deadline(asked: &Load, rivals: &mut Vec<Source>, busy: u64) -> Optio
             one_more_at = release.saturating_add(asked.period);
         }
         let due = release.saturating_add(asked.local);
-        let done = least_window(own, rivals, due, COMPLETION_LIMIT)?;
+        let done = least_window(own, rivals, Some(due), COMPLETION_LIMIT)?;
         worst = worst.max(asked.jitter.saturating_add(done).saturating_sub(release));
     }
     Some(worst)
@@ -110,11 +110,11 @@ pub fn response_time(
     match letter {
         Letter::E => {
             let mut rivals = sources_from(alloc, others, 0)?;
-            Ok(earliest_deadline(asked, &mut rivals, busy))
+            Ok(earliest_deadline(asked, rivals.as_mut_slice(), busy))
         }
         Letter::P => {
             let mut rivals = sources_from(alloc, others, asked.priority)?;
-            Ok(fixed_priority(asked, &mut rivals, busy))
+            Ok(fixed_priority(asked, rivals.as_mut_slice(), busy))
         }
     }
 }

@@ -2,6 +2,8 @@
 use crate::fields::{ChainFields, StepFields, first_fault, is_cost};
 use crate::node::{Letter, Load, response_time};
 use std::alloc::{AllocError, Global};
+use std::collections::BTreeMap;
+use std::fmt::Write;
 
 const MOST_CHAINS: usize = 16;
 
@@ -11,14 +13,7 @@ const MOST_STEPS_OF_CHAIN: usize = 16;
 // More rounds than any table makes: 64 steps of at most 1,000,000 ticks each, and one round more.
 const MOST_ROUNDS: u64 = 64_000_001;
 
-// The letter that a node was given.
-#[derive(Clone, Copy)]
-pub struct NodeLetter {
-    pub node: u64,
-    pub letter: Letter,
-}
-
-// A step with its release jitter and its response, 0 as long as none is known.
+// A step with its release jitter and its response, 0 before any round.
 #[derive(Clone, Copy)]
 struct HeldStep {
     fields: StepFields,
@@ -32,25 +27,80 @@ struct HeldChain {
     steps: Vec<HeldStep>,
 }
 
-// What a call answers. Beside a refusal stands its place or its rounds, else 0.
+// Where a step stands, its chain and its own place counted from 0.
+#[derive(Clone, Copy)]
+struct Place {
+    chain: usize,
+    step: usize,
+}
+
+// What a call answers that is not refused.
 #[derive(Clone, Copy, PartialEq, Debug)]
-pub enum Answer {
+pub enum Reply {
     Done,
     Solved { rounds: u64 },
     Told { jitter: u64, response: u64 },
-    Refused { number: u64, beside: u64 },
 }
 
-fn refused(number: u64) -> Answer {
-    Answer::Refused { number, beside: 0 }
+#[derive(Clone, Copy, PartialEq, Debug)]
+pub enum Refusal {
+    Field { place: u64 },
+    StepCount,
+    ChainsFull,
+    StepsFull,
+    IdHeld,
+    IdNotHeld,
+    NoSuchStep,
+    Cost,
+    NotSolved,
+    NothingCarries { rounds: u64 },
 }
+
+impl Refusal {
+    pub fn number(&self) -> u64 {
+        match self {
+            Refusal::Field { place: _ } => 1,
+            Refusal::StepCount => 2,
+            Refusal::ChainsFull => 3,
+            Refusal::StepsFull => 4,
+            Refusal::IdHeld => 5,
+            Refusal::IdNotHeld => 6,
+            Refusal::NoSuchStep => 7,
+            Refusal::Cost => 8,
+            Refusal::NotSolved => 9,
+            Refusal::NothingCarries { rounds: _ } => 10,
+        }
+    }
+
+    // The place or the rounds that come with it.
+    pub fn beside(&self) -> Option<u64> {
+        match self {
+            Refusal::Field { place } => Some(*place),
+            Refusal::NothingCarries { rounds } => Some(*rounds),
+            _ => None,
+        }
+    }
+}
+
+pub type Answer = Result<Reply, Refusal>;
 
 #[derive(Drop)]
 pub struct Panel {
-    letters: Vec<NodeLetter>,
+    alloc: Global,
+    letters: BTreeMap<u64, Letter>,
     chains: Vec<HeldChain>,
     // the rounds of the accepted solve that stands
     standing: Option<u64>,
+}
+
+impl From<StepFields> for HeldStep {
+    fn from(fields: StepFields) -> HeldStep {
+        HeldStep {
+            fields,
+            jitter: 0,
+            response: 0,
+        }
+    }
 }
 
 impl HeldStep {
@@ -72,18 +122,8 @@ impl HeldChain {
         fields: ChainFields,
         steps: &[StepFields],
     ) -> Result<HeldChain, AllocError> {
-        let mut held = Vec::new(alloc);
-        for step in steps.iter() {
-            held.push(HeldStep {
-                fields: *step,
-                jitter: 0,
-                response: 0,
-            })?;
-        }
-        Ok(HeldChain {
-            fields,
-            steps: held,
-        })
+        let steps = steps.iter().copied().map(HeldStep::from).collect(alloc)?;
+        Ok(HeldChain { fields, steps })
     }
 
     // The jitters of a round, out of the responses of the round before.
@@ -97,22 +137,20 @@ impl HeldChain {
 
     // Whether a step is past the end-to-end deadline at its jitter and its cost alone, which no response is below.
     fn is_late(&self) -> bool {
-        let mut late = false;
-        for step in self.steps.iter() {
-            let least = step.jitter.saturating_add(step.fields.cost);
-            late = late || least > self.fields.deadline;
-        }
-        late
+        let deadline = self.fields.deadline;
+        self.steps.iter().any(|step| step.jitter.saturating_add(step.fields.cost) > deadline)
     }
 
-    // Takes over the responses of a round; whether one is new.
-    fn take_over(&mut self, responses: &Vec<u64>) -> bool {
-        let mut changed = false;
-        for (step, response) in self.steps.iter_mut().zip(responses.iter()) {
-            changed = changed || step.response != *response;
+    // Whether these are the responses that it has.
+    fn has(&self, responses: &[u64]) -> bool {
+        let held = self.steps.iter().map(|step| step.response);
+        held.eq(responses.iter().copied())
+    }
+
+    fn take_over(&mut self, responses: &[u64]) {
+        for (step, response) in self.steps.iter_mut().zip(responses) {
             step.response = *response;
         }
-        changed
     }
 
     fn forget(&mut self) {
@@ -137,51 +175,22 @@ impl HeldChain {
     }
 
     // Appends a line of the listing for each step.
-    fn list(&self, alloc: Global, bytes: &mut Vec<u8>) -> Result<(), AllocError> {
+    fn list(&self, text: &mut String) -> Result<(), AllocError> {
         let id = self.fields.id;
-        let mut number: u64 = 0;
-        for step in self.steps.iter() {
-            number = number.saturating_add(1);
+        for (number, step) in (1u64..).zip(self.steps.iter()) {
             let jitter = step.jitter;
             let response = step.response;
-            let line = format!(in alloc; "step,{id},{number},{jitter},{response}\n")?;
-            bytes.extend_from_slice(line.as_bytes())?;
+            writeln!(text, "step,{id},{number},{jitter},{response}")?;
         }
         Ok(())
     }
 }
 
-// The rows of a node but for the one asked for: step `at_step` of chain `at_chain`, both counted from 0.
-fn others_on(
-    alloc: Global,
-    chains: &Vec<HeldChain>,
-    node: u64,
-    at_chain: usize,
-    at_step: usize,
-) -> Result<Vec<Load>, AllocError> {
-    let mut loads = Vec::new(alloc);
-    for (k, chain) in chains.iter().enumerate() {
-        let asked = if k == at_chain { Some(at_step) } else { None };
-        chain.loads_on(node, asked, &mut loads)?;
-    }
-    Ok(loads)
-}
-
-// The letter of a node: E where none was given.
-fn letter_of(letters: &Vec<NodeLetter>, node: u64) -> Letter {
-    let mut letter = Letter::E;
-    for given in letters.iter() {
-        if given.node == node {
-            letter = given.letter;
-        }
-    }
-    letter
-}
-
 impl Panel {
     // A panel with no chain and these letters.
-    pub fn new(alloc: Global, letters: Vec<NodeLetter>) -> Panel {
+    pub fn new(alloc: Global, letters: BTreeMap<u64, Letter>) -> Panel {
         Panel {
+            alloc,
             letters,
             chains: Vec::new(alloc),
             standing: None,
@@ -190,74 +199,60 @@ impl Panel {
 
     // Whether a node was given a letter.
     pub fn has_letter(&self, node: u64) -> bool {
-        let mut given = false;
-        for known in self.letters.iter() {
-            given = given || known.node == node;
-        }
-        given
+        self.letters.contains_key(&node)
     }
 
     // Gives a node its letter.
     pub fn give(&mut self, node: u64, letter: Letter) -> Result<(), AllocError> {
-        self.letters.push(NodeLetter { node, letter })?;
+        self.letters.insert(node, letter)?;
         Ok(())
+    }
+
+    // The letter of a node: E where none was given.
+    fn letter_of(&self, node: u64) -> Letter {
+        self.letters.get(&node).copied().unwrap_or(Letter::E)
     }
 
     // Where the chain of this id stands.
     fn place_of(&self, id: u64) -> Option<usize> {
-        for (k, chain) in self.chains.iter().enumerate() {
-            if chain.fields.id == id {
-                return Some(k);
-            }
-        }
-        None
+        self.chains.iter().position(|chain| chain.fields.id == id)
     }
 
     fn steps_held(&self) -> usize {
-        let mut held: usize = 0;
-        for chain in self.chains.iter() {
-            held = held.saturating_add(chain.steps.len());
-        }
-        held
+        let counts = self.chains.iter().map(|chain| chain.steps.len());
+        // not `sum`: no type says here that the counts add up to at most 64
+        counts.fold(0, |held: usize, count| held.saturating_add(count))
     }
 
     // The causes of a refused add, in their order.
-    fn add_fault(&self, fields: &ChainFields, steps: &[StepFields]) -> Option<Answer> {
-        let place = match fields.out_of_range() {
-            Some(place) => Some(place),
-            None => first_fault(steps),
-        };
-        if let Some(beside) = place {
-            return Some(Answer::Refused { number: 1, beside });
+    fn check_add(&self, fields: &ChainFields, steps: &[StepFields]) -> Result<(), Refusal> {
+        if let Some(place) = fields.out_of_range().or_else(|| first_fault(steps)) {
+            return Err(Refusal::Field { place });
         }
         if steps.is_empty() || steps.len() > MOST_STEPS_OF_CHAIN {
-            return Some(refused(2));
+            return Err(Refusal::StepCount);
         }
         if self.chains.len() >= MOST_CHAINS {
-            return Some(refused(3));
+            return Err(Refusal::ChainsFull);
         }
         if self.steps_held().saturating_add(steps.len()) > MOST_STEPS {
-            return Some(refused(4));
+            return Err(Refusal::StepsFull);
         }
         if self.place_of(fields.id).is_some() {
-            return Some(refused(5));
+            return Err(Refusal::IdHeld);
         }
-        None
+        Ok(())
     }
 
     // Adds a chain behind the others. What was kept is kept, and the new rows start from 0.
-    pub fn add(
-        &mut self,
-        alloc: Global,
-        fields: ChainFields,
-        steps: &[StepFields],
-    ) -> Result<Answer, AllocError> {
-        if let Some(fault) = self.add_fault(&fields, steps) {
-            return Ok(fault);
+    pub fn add(&mut self, fields: ChainFields, steps: &[StepFields]) -> Result<Answer, AllocError> {
+        if let Err(why) = self.check_add(&fields, steps) {
+            return Ok(Err(why));
         }
-        self.chains.push(HeldChain::new(alloc, fields, steps)?)?;
+        self.chains
+            .push(HeldChain::new(self.alloc, fields, steps)?)?;
         self.standing = None;
-        Ok(Answer::Done)
+        Ok(Ok(Reply::Done))
     }
 
     // No response is kept, and no solve stands.
@@ -269,101 +264,90 @@ impl Panel {
     }
 
     pub fn drop_chain(&mut self, id: u64) -> Answer {
-        let Some(k) = self.place_of(id) else {
-            return refused(6);
-        };
-        if k < self.chains.len() {
-            let _ = self.chains.remove(k);
-        }
+        self.place_of(id).ok_or(Refusal::IdNotHeld)?;
+        self.chains.retain(|chain| chain.fields.id != id);
         self.forget();
-        Answer::Done
+        Ok(Reply::Done)
     }
 
-    // Where a step of a chain stands, its number counted from 1; or refusal 6 or 7.
-    fn find(&self, id: u64, step: u64) -> Result<(usize, usize), Answer> {
-        let Some(k) = self.place_of(id) else {
-            return Err(refused(6));
-        };
-        let Some(chain) = self.chains.get(k) else {
-            return Err(refused(6));
-        };
-        let Ok(number) = usize::try_from(step) else {
-            return Err(refused(7));
-        };
-        if number == 0 || number > chain.steps.len() {
-            return Err(refused(7));
-        }
-        Ok((k, number.saturating_sub(1)))
+    // The step of this number, counted from 1, of the chain of this id; or refusal 6 or 7.
+    fn find(&self, id: u64, number: u64) -> Result<&HeldStep, Refusal> {
+        let mut chains = self.chains.iter();
+        let chain = chains
+            .find(|chain| chain.fields.id == id)
+            .ok_or(Refusal::IdNotHeld)?;
+        let k = index(number).ok_or(Refusal::NoSuchStep)?;
+        chain.steps.get(k).ok_or(Refusal::NoSuchStep)
     }
 
-    fn set_cost(&mut self, at_chain: usize, at_step: usize, cost: u64) {
-        if let Some(chain) = self.chains.get_mut(at_chain) {
-            if let Some(step) = chain.steps.get_mut(at_step) {
-                step.fields.cost = cost;
-            }
-        }
+    // The same, to be changed: no one function lends both ways, as with `get` and `get_mut`.
+    fn find_mut(&mut self, id: u64, number: u64) -> Result<&mut HeldStep, Refusal> {
+        let mut chains = self.chains.iter_mut();
+        let chain = chains
+            .find(|chain| chain.fields.id == id)
+            .ok_or(Refusal::IdNotHeld)?;
+        let k = index(number).ok_or(Refusal::NoSuchStep)?;
+        chain.steps.get_mut(k).ok_or(Refusal::NoSuchStep)
     }
 
     pub fn recost(&mut self, id: u64, step: u64, cost: u64) -> Answer {
-        let (at_chain, at_step) = match self.find(id, step) {
-            Ok(place) => place,
-            Err(why) => return why,
-        };
+        let held = self.find_mut(id, step)?;
         if !is_cost(cost) {
-            return refused(8);
+            return Err(Refusal::Cost);
         }
-        self.set_cost(at_chain, at_step, cost);
+        held.fields.cost = cost;
         self.forget();
-        Answer::Done
+        Ok(Reply::Done)
     }
 
     // The release jitter and the response of a step, if a solve stands.
     pub fn ask(&self, id: u64, step: u64) -> Answer {
-        let (at_chain, at_step) = match self.find(id, step) {
-            Ok(place) => place,
-            Err(why) => return why,
-        };
-        if self.standing.is_none() {
-            return refused(9);
-        }
-        let Some(chain) = self.chains.get(at_chain) else {
-            return refused(6);
-        };
-        let Some(held) = chain.steps.get(at_step) else {
-            return refused(7);
-        };
-        Answer::Told {
+        let held = self.find(id, step)?;
+        self.standing.ok_or(Refusal::NotSolved)?;
+        Ok(Reply::Told {
             jitter: held.jitter,
             response: held.response,
+        })
+    }
+
+    // The rows of a node but for the one asked for.
+    fn others_on(&self, node: u64, asked: Place) -> Result<Vec<Load>, AllocError> {
+        let mut loads = Vec::new(self.alloc);
+        for (k, chain) in self.chains.iter().enumerate() {
+            let asked = (k == asked.chain).then_some(asked.step);
+            chain.loads_on(node, asked, &mut loads)?;
         }
+        Ok(loads)
     }
 
     // The response time of one step at the jitters of this round.
     fn response(
         &self,
-        alloc: Global,
-        at_chain: usize,
-        at_step: usize,
+        at: Place,
         asked: &HeldStep,
         period: u64,
     ) -> Result<Option<u64>, AllocError> {
         let node = asked.fields.node;
-        let others = others_on(alloc, &self.chains, node, at_chain, at_step)?;
-        let letter = letter_of(&self.letters, node);
-        response_time(alloc, letter, &asked.load(period), others.as_slice())
+        let others = self.others_on(node, at)?;
+        let letter = self.letter_of(node);
+        response_time(self.alloc, letter, &asked.load(period), others.as_slice())
     }
 
     // The responses of one chain. None if one is over or past the chain's end-to-end deadline.
     fn responses_of(
         &self,
-        alloc: Global,
         at_chain: usize,
         chain: &HeldChain,
     ) -> Result<Option<Vec<u64>>, AllocError> {
-        let mut responses = Vec::new(alloc);
+        let fields = chain.fields;
+        let mut responses = Vec::new(self.alloc);
         for (k, step) in chain.steps.iter().enumerate() {
-            match self.response(alloc, at_chain, k, step, chain.fields.period)? {
-                Some(response) if response <= chain.fields.deadline => responses.push(response)?,
+            let at = Place {
+                chain: at_chain,
+                step: k,
+            };
+            match self.response(at, step, fields.period)? {
+                Some(response) if response <= fields.deadline => responses.push(response)?,
                 _ => return Ok(None),
             }
         }
@@ -372,25 +356,20 @@ impl Panel {
 
     // Whether a round refuses by jitters and costs alone. This is told first, since a long jitter makes long scans.
     fn is_late(&self) -> bool {
-        let mut late = false;
-        for chain in self.chains.iter() {
-            let here = chain.is_late();
-            late = late || here;
-        }
-        late
+        self.chains.iter().any(|chain| chain.is_late())
     }
 
     // The responses of a round, chain by chain. None if the round refuses.
-    fn responses(&self, alloc: Global) -> Result<Option<Vec<Vec<u64>>>, AllocError> {
+    fn responses(&self) -> Result<Option<Vec<Vec<u64>>>, AllocError> {
         if self.is_late() {
             return Ok(None);
         }
-        let mut all = Vec::new(alloc);
+        let mut all = Vec::new(self.alloc);
         for (k, chain) in self.chains.iter().enumerate() {
-            match self.responses_of(alloc, k, chain)? {
-                Some(responses) => all.push(responses)?,
-                None => return Ok(None),
-            }
+            let Some(responses) = self.responses_of(k, chain)? else {
+                return Ok(None);
+            };
+            all.push(responses)?;
         }
         Ok(Some(all))
     }
@@ -401,47 +380,51 @@ impl Panel {
         }
     }
 
-    // Takes over the responses of a round; whether one is new.
-    fn take_over(&mut self, all: &Vec<Vec<u64>>) -> bool {
-        let mut changed = false;
-        for (chain, responses) in self.chains.iter_mut().zip(all.iter()) {
-            let here = chain.take_over(responses);
-            changed = changed || here;
+    // Whether a round changes nothing.
+    fn has(&self, all: &[Vec<u64>]) -> bool {
+        let mut chains = self.chains.iter().zip(all);
+        chains.all(|(chain, responses)| chain.has(responses.as_slice()))
+    }
+
+    // Takes over the responses of a round.
+    fn take_over(&mut self, all: &[Vec<u64>]) {
+        for (chain, responses) in self.chains.iter_mut().zip(all) {
+            chain.take_over(responses.as_slice());
         }
-        changed
     }
 
     // Rounds from what is kept, up to the one that changes nothing or the one that refuses.
-    pub fn solve(&mut self, alloc: Global) -> Result<Answer, AllocError> {
+    pub fn solve(&mut self) -> Result<Answer, AllocError> {
         for rounds in 1..=MOST_ROUNDS {
             self.set_jitters();
-            let Some(all) = self.responses(alloc)? else {
+            let Some(all) = self.responses()? else {
                 self.forget();
-                return Ok(Answer::Refused {
-                    number: 10,
-                    beside: rounds,
-                });
+                return Ok(Err(Refusal::NothingCarries { rounds }));
             };
-            if !self.take_over(&all) {
+            if self.has(all.as_slice()) {
                 self.standing = Some(rounds);
-                return Ok(Answer::Solved { rounds });
+                return Ok(Ok(Reply::Solved { rounds }));
             }
+            self.take_over(all.as_slice());
         }
-        // by the documents no table comes here
-        Ok(refused(0))
+        // by the documents no table comes here, and no refusal has 0 rounds
+        Ok(Err(Refusal::NothingCarries { rounds: 0 }))
     }
 
-    // The bytes of the listing. None if no solve stands.
-    pub fn listing(&self, alloc: Global) -> Result<Option<Vec<u8>>, AllocError> {
+    // The listing, if a solve stands.
+    pub fn listing(&self) -> Result<Result<String, Refusal>, AllocError> {
         let Some(rounds) = self.standing else {
-            return Ok(None);
+            return Ok(Err(Refusal::NotSolved));
         };
-        let head = format!(in alloc; "rounds,{rounds}\n")?;
-        let mut bytes = Vec::new(alloc);
-        bytes.extend_from_slice(head.as_bytes())?;
+        let mut text = format!(in self.alloc; "rounds,{rounds}\n")?;
         for chain in self.chains.iter() {
-            chain.list(alloc, &mut bytes)?;
+            chain.list(&mut text)?;
         }
-        Ok(Some(bytes))
+        Ok(Ok(text))
     }
+}
+
+// The place from 0 of what has this number from 1.
+fn index(number: u64) -> Option<usize> {
+    usize::try_from(number.checked_sub(1)?).ok()
 }

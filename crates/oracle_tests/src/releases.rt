@@ -18,9 +18,8 @@ pub struct Source {
     next: u64,
 }
 
-// Where no deadline matters, every job is due.
-pub const NO_DEADLINE: u64 = u64::MAX;
 // The instant of a job that does not count. No scan comes there.
+// A number and no `Option<u64>`: with that the scans, and so the whole comparison, took nearly twice as long.
 const NEVER: u64 = u64::MAX;
 
 impl Source {
@@ -28,6 +27,7 @@ impl Source {
     pub fn new(period: u64, cost: u64, local: u64, jitter: u64) -> Source {
         let mut together: u64 = 0;
         let mut nominal: u64 = 0;
+        // a walk over the releases and no division, to stay unlike the first analyser; `step_by` visits every tick
         for _ in 0..=jitter {
             if nominal > jitter {
                 break;
@@ -35,14 +35,13 @@ impl Source {
             together = together.saturating_add(1);
             nominal = nominal.saturating_add(period);
         }
-        let later = nominal.saturating_sub(jitter);
         Source {
             cost,
             period,
             local,
             together,
-            later,
-            next: later,
+            later: nominal.saturating_sub(jitter),
+            next: NEVER,
         }
     }
 
@@ -60,56 +59,58 @@ impl Source {
 #[derive(Clone, Copy)]
 struct Batch {
     work: u64,
-    soonest: u64,
+    next: u64,
 }
 
 // Starts a scan: the jobs released at instant 0.
-fn first_batch(sources: &mut Vec<Source>, due: u64) -> Batch {
+fn first_batch(sources: &mut [Source], due: u64) -> Batch {
     let mut work: u64 = 0;
-    let mut soonest = NEVER;
-    for source in sources.iter_mut() {
+    let mut next = NEVER;
+    for source in sources {
         source.next = source.if_due(source.later, due);
-        soonest = soonest.min(source.next);
+        next = next.min(source.next);
         if source.local <= due {
             work = work.saturating_add(source.together.saturating_mul(source.cost));
         }
     }
-    Batch { work, soonest }
+    Batch { work, next }
 }
 
 // Goes on with a scan: the jobs released at this later instant.
-fn batch_at(sources: &mut Vec<Source>, instant: u64, due: u64) -> Batch {
+fn batch_at(sources: &mut [Source], instant: u64, due: u64) -> Batch {
     let mut work: u64 = 0;
-    let mut soonest = NEVER;
-    for source in sources.iter_mut() {
+    let mut next = NEVER;
+    for source in sources {
         if source.next == instant {
             work = work.saturating_add(source.cost);
             source.next = source.if_due(instant.saturating_add(source.period), due);
         }
-        soonest = soonest.min(source.next);
+        next = next.min(source.next);
     }
-    Batch { work, soonest }
+    Batch { work, next }
 }
 
 // The least window of at least one tick that equals the work in it: the row's own work and that of the jobs that count.
-// None if there is none up to the limit.
-pub fn least_window(own: u64, sources: &mut Vec<Source>, due: u64, limit: u64) -> Option<u64> {
+// With no `due` every job does. None if there is no window up to the limit.
+pub fn least_window(own: u64, sources: &mut [Source], due: Option<u64>, limit: u64) -> Option<u64> {
+    // every instant is due by the last of all
+    let due = due.unwrap_or(u64::MAX);
     let first = first_batch(sources, due);
     let mut work = own.saturating_add(first.work);
-    let mut soonest = first.soonest;
+    let mut next = first.next;
     let mut window: u64 = 1;
     for _ in 0..limit {
         // from this tick to the next release the work stays the same
-        if work >= window && work <= soonest {
-            return if work <= limit { Some(work) } else { None };
+        if work >= window && work <= next {
+            return (work <= limit).then_some(work);
         }
-        if soonest >= limit {
+        if next >= limit {
             return None;
         }
-        let batch = batch_at(sources, soonest, due);
+        let batch = batch_at(sources, next, due);
         work = work.saturating_add(batch.work);
-        window = soonest.saturating_add(1);
-        soonest = batch.soonest;
+        window = next.saturating_add(1);
+        next = batch.next;
     }
     None
 }

@@ -1,33 +1,79 @@
-// A table's text, and the bytes that are printed of it: the listing, or the line of its refusal.
+// A table's text, and what is printed of it: the listing, or the line of its refusal.
 use crate::fields::{ChainFields, StepFields, is_node};
 use crate::node::Letter;
-use crate::panel::{Answer, Panel};
+use crate::panel::{Panel, Refusal};
 use std::alloc::{AllocError, AllocFailed, Global};
+use std::collections::BTreeMap;
+use std::fmt;
 
 const LONGEST_TEXT: usize = 32_768;
 
-const LINE_FEED: u8 = 10;
-
-const COMMA: u8 = 44;
-
 const MOST_DIGITS: usize = 7;
 
-const NODE: &[u8] = b"node";
+// What is wrong with a text.
+#[derive(Clone, Copy, PartialEq, Debug)]
+pub enum Cause {
+    OutOfRange,
+    // a chain that the panel refuses
+    Chain(Refusal),
+    TooLong,
+    Unended,
+    Kind,
+    FieldCount,
+    Empty,
+    Number,
+    Letter,
+    Order,
+    NodeLine,
+}
 
-const CHAIN: &[u8] = b"chain";
+impl Cause {
+    pub fn number(&self) -> u64 {
+        match self {
+            Cause::OutOfRange => 1,
+            Cause::Chain(why) => why.number(),
+            Cause::TooLong => 11,
+            Cause::Unended => 12,
+            Cause::Kind => 13,
+            Cause::FieldCount => 14,
+            Cause::Empty => 15,
+            Cause::Number => 16,
+            Cause::Letter => 17,
+            Cause::Order => 18,
+            Cause::NodeLine => 19,
+        }
+    }
+}
 
-const STEP: &[u8] = b"step";
+// Where a fault is, counted from 1.
+#[derive(Clone, Copy, PartialEq, Debug)]
+pub enum Spot {
+    Text,
+    Line { line: u64 },
+    Field { line: u64, field: u64 },
+}
 
-const LETTER_E: &[u8] = b"E";
+impl fmt::Display for Spot {
+    fn fmt<W: fmt::Write>(&self, f: &mut fmt::Formatter<W>) -> fmt::Result {
+        match self {
+            Spot::Text => write!(f, "0,0"),
+            Spot::Line { line } => write!(f, "{line},0"),
+            Spot::Field { line, field } => write!(f, "{line},{field}"),
+        }
+    }
+}
 
-const LETTER_P: &[u8] = b"P";
-
-// A fault of a text. Line and field are counted from 1; 0 stands for a whole line or the whole text.
 #[derive(Clone, Copy, PartialEq, Debug)]
 pub struct Fault {
-    pub number: u64,
-    pub line: u64,
-    pub field: u64,
+    pub cause: Cause,
+    pub spot: Spot,
+}
+
+// The line of a refused text, without its line feed.
+impl fmt::Display for Fault {
+    fn fmt<W: fmt::Write>(&self, f: &mut fmt::Formatter<W>) -> fmt::Result {
+        write!(f, "refused,{},{}", self.cause.number(), self.spot)
+    }
 }
 
 // Why reading stops.
@@ -49,12 +95,10 @@ impl<T: Drop> From<AllocFailed<T>> for Halt {
     }
 }
 
-fn told_at(number: u64, line: u64, field: u64) -> Halt {
-    Halt::Fault(Fault {
-        number,
-        line,
-        field,
-    })
+impl From<Fault> for Halt {
+    fn from(fault: Fault) -> Halt {
+        Halt::Fault(fault)
+    }
 }
 
 #[derive(Clone, Copy)]
@@ -64,19 +108,63 @@ enum Kind {
     Step,
 }
 
-// The pieces of some bytes between the marks: one more than there are marks.
-fn cut(alloc: Global, bytes: &[u8], mark: u8) -> Result<Vec<Vec<u8>>, AllocError> {
-    let mut pieces = Vec::new(alloc);
-    let mut piece: Vec<u8> = Vec::new(alloc);
-    for byte in bytes.iter() {
-        if *byte == mark {
-            pieces.push(std::mem::replace(&mut piece, Vec::new(alloc)))?;
-        } else {
-            piece.push(*byte)?;
+impl Kind {
+    // How many fields its lines have, the kind counted.
+    fn field_count(self) -> usize {
+        match self {
+            Kind::Node => 3,
+            Kind::Chain => 5,
+            Kind::Step => 7,
         }
     }
-    pieces.push(piece)?;
-    Ok(pieces)
+}
+
+impl TryFrom<&[u8]> for Kind {
+    type Error = Cause;
+
+    fn try_from(word: &[u8]) -> Result<Kind, Cause> {
+        match word {
+            b"node" => Ok(Kind::Node),
+            b"chain" => Ok(Kind::Chain),
+            b"step" => Ok(Kind::Step),
+            _ => Err(Cause::Kind),
+        }
+    }
+}
+
+impl TryFrom<&[u8]> for Letter {
+    type Error = Cause;
+
+    fn try_from(word: &[u8]) -> Result<Letter, Cause> {
+        match word {
+            b"" => Err(Cause::Empty),
+            b"E" => Ok(Letter::E),
+            b"P" => Ok(Letter::P),
+            _ => Err(Cause::Letter),
+        }
+    }
+}
+
+// A number of 1 to 7 digits, with no leading zero but for 0 itself.
+fn number_of(word: &[u8]) -> Result<u64, Cause> {
+    match word {
+        [] => return Err(Cause::Empty),
+        [b'0', _, ..] => return Err(Cause::Number),
+        _ => {}
+    }
+    if word.len() > MOST_DIGITS || !word.iter().all(|byte| byte.is_ascii_digit()) {
+        return Err(Cause::Number);
+    }
+    let digits = str::from_utf8(word).map_err(|_| Cause::Number)?;
+    digits.parse().map_err(|_| Cause::Number)
+}
+
+// The pieces of some bytes between the marks: one more than there are marks.
+fn cut(alloc: Global, bytes: &[u8], mark: u8) -> Result<Vec<Vec<u8>>, AllocError> {
+    bytes
+        .split(|byte| *byte == mark)
+        .map(|piece| piece.to_vec(alloc))
+        .try_collect(alloc)
 }
 
 // One line, cut into its fields.
@@ -86,86 +174,59 @@ struct FieldLine {
     fields: Vec<Vec<u8>>,
 }
 
-// A number of 1 to 7 digits, with no leading zero but for 0 itself.
-fn decimal(field: &[u8]) -> Option<u64> {
-    if field.len() > MOST_DIGITS || (field.len() > 1 && field.first() == Some(&b'0')) {
-        return None;
-    }
-    let mut value: u64 = 0;
-    for byte in field.iter() {
-        if *byte < b'0' || *byte > b'9' {
-            return None;
-        }
-        let digit = u64::from(byte.saturating_sub(b'0'));
-        value = value.saturating_mul(10).saturating_add(digit);
-    }
-    Some(value)
-}
-
 impl FieldLine {
     fn new(alloc: Global, number: u64, bytes: &[u8]) -> Result<FieldLine, AllocError> {
-        Ok(FieldLine {
-            number,
-            fields: cut(alloc, bytes, COMMA)?,
-        })
+        let fields = cut(alloc, bytes, b',')?;
+        Ok(FieldLine { number, fields })
     }
 
-    fn fault(&self, number: u64, field: u64) -> Halt {
-        told_at(number, self.number, field)
+    // A fault of the whole line.
+    fn fault(&self, cause: Cause) -> Fault {
+        let line = self.number;
+        let spot = Spot::Line { line };
+        Fault { cause, spot }
+    }
+
+    fn fault_at(&self, field: u64, cause: Cause) -> Fault {
+        let line = self.number;
+        let spot = Spot::Field { line, field };
+        Fault { cause, spot }
+    }
+
+    // The field at this place counted from 0, empty where there is none.
+    fn field(&self, k: usize) -> &[u8] {
+        self.fields.get(k).map_or(b"", |field| field.as_slice())
     }
 
     // Faults 13 and 14: the kind that the first field names, with as many fields as it has.
-    fn kind(&self) -> Result<Kind, Halt> {
-        let Some(first) = self.fields.get(0) else {
-            return Err(self.fault(13, 1));
-        };
-        let word = first.as_slice();
-        let (kind, count) = if word == NODE {
-            (Kind::Node, 3)
-        } else if word == CHAIN {
-            (Kind::Chain, 5)
-        } else if word == STEP {
-            (Kind::Step, 7)
-        } else {
-            return Err(self.fault(13, 1));
-        };
-        if self.fields.len() != count {
-            return Err(self.fault(14, 0));
+    fn kind(&self) -> Result<Kind, Fault> {
+        let kind = Kind::try_from(self.field(0)).map_err(|cause| self.fault_at(1, cause))?;
+        if self.fields.len() != kind.field_count() {
+            return Err(self.fault(Cause::FieldCount));
         }
         Ok(kind)
     }
 
-    // Faults 15 and 16 of the fields from the second to the one before `end`, from left to right: their numbers.
-    fn numbers(&self, alloc: Global, end: usize) -> Result<Vec<u64>, Halt> {
-        let mut numbers = Vec::new(alloc);
-        let mut place: u64 = 1;
-        for field in self.fields.iter().take(end).skip(1) {
-            place = place.saturating_add(1);
-            if field.is_empty() {
-                return Err(self.fault(15, place));
-            }
-            match decimal(field.as_slice()) {
-                Some(value) => numbers.push(value)?,
-                None => return Err(self.fault(16, place)),
-            }
+    // Faults 15 and 16 of so many fields behind the first, from left to right: their numbers.
+    fn numbers<const N: usize>(&self) -> Result<[u64; N], Fault> {
+        let mut numbers = [0; N];
+        let fields = self.fields.iter().skip(1);
+        for ((place, number), field) in (2u64..).zip(numbers.iter_mut()).zip(fields) {
+            *number = number_of(field.as_slice()).map_err(|cause| self.fault_at(place, cause))?;
         }
         Ok(numbers)
     }
 
     // Faults 15 and 17: the letter in the third field.
-    fn letter(&self) -> Result<Letter, Halt> {
-        let Some(field) = self.fields.get(2) else {
-            return Err(self.fault(14, 0));
-        };
-        let word = field.as_slice();
-        if word.is_empty() {
-            Err(self.fault(15, 3))
-        } else if word == LETTER_E {
-            Ok(Letter::E)
-        } else if word == LETTER_P {
-            Ok(Letter::P)
-        } else {
-            Err(self.fault(17, 3))
+    fn letter(&self) -> Result<Letter, Fault> {
+        Letter::try_from(self.field(2)).map_err(|cause| self.fault_at(3, cause))
+    }
+
+    // Fault 1, if the fields of a record are out of range at this place: the record's first field is the line's second.
+    fn check_range(&self, out_of_range: Option<u64>) -> Result<(), Fault> {
+        match out_of_range {
+            Some(place) => Err(self.fault_at(place.saturating_add(1), Cause::OutOfRange)),
+            None => Ok(()),
         }
     }
 }
@@ -180,96 +241,86 @@ struct OpenChain {
 
 #[derive(Drop)]
 struct Reader {
+    alloc: Global,
     panel: Panel,
     open: Option<OpenChain>,
 }
 
 impl Reader {
-    fn node_line(&mut self, alloc: Global, line: &FieldLine) -> Result<(), Halt> {
-        let numbers = line.numbers(alloc, 2)?;
+    fn node_line(&mut self, line: &FieldLine) -> Result<(), Halt> {
+        let [node] = line.numbers::<1>()?;
         let letter = line.letter()?;
-        let [node] = numbers.as_slice() else {
-            return Err(line.fault(14, 0));
-        };
         if self.open.is_some() {
-            return Err(line.fault(18, 0));
+            return Err(line.fault(Cause::Order).into());
         }
-        if !is_node(*node) {
-            return Err(line.fault(1, 2));
+        if !is_node(node) {
+            return Err(line.fault_at(2, Cause::OutOfRange).into());
         }
-        if self.panel.has_letter(*node) {
-            return Err(line.fault(19, 2));
+        if self.panel.has_letter(node) {
+            return Err(line.fault_at(2, Cause::NodeLine).into());
         }
-        self.panel.give(*node, letter)?;
+        self.panel.give(node, letter)?;
         Ok(())
     }
 
-    fn chain_line(&mut self, alloc: Global, line: &FieldLine) -> Result<(), Halt> {
-        let numbers = line.numbers(alloc, 5)?;
-        let [id, period, deadline, arrival_jitter] = numbers.as_slice() else {
-            return Err(line.fault(14, 0));
-        };
+    fn chain_line(&mut self, line: &FieldLine) -> Result<(), Halt> {
+        let [id, period, deadline, arrival_jitter] = line.numbers::<4>()?;
         let fields = ChainFields {
-            id: *id,
-            period: *period,
-            deadline: *deadline,
-            arrival_jitter: *arrival_jitter,
+            id,
+            period,
+            deadline,
+            arrival_jitter,
         };
-        if let Some(place) = fields.out_of_range() {
-            return Err(line.fault(1, place.saturating_add(1)));
-        }
-        self.complete(alloc)?;
+        line.check_range(fields.out_of_range())?;
+        self.complete()?;
         self.open = Some(OpenChain {
             line: line.number,
             fields,
-            steps: Vec::new(alloc),
+            steps: Vec::new(self.alloc),
         });
         Ok(())
     }
 
-    fn step_line(&mut self, alloc: Global, line: &FieldLine) -> Result<(), Halt> {
-        let numbers = line.numbers(alloc, 7)?;
-        let [node, cost, local, delay, blocking, priority] = numbers.as_slice() else {
-            return Err(line.fault(14, 0));
-        };
+    fn step_line(&mut self, line: &FieldLine) -> Result<(), Halt> {
+        let [node, cost, local, delay, blocking, priority] = line.numbers::<6>()?;
         let fields = StepFields {
-            node: *node,
-            cost: *cost,
-            local: *local,
-            delay: *delay,
-            blocking: *blocking,
-            priority: *priority,
+            node,
+            cost,
+            local,
+            delay,
+            blocking,
+            priority,
         };
         let Some(open) = &mut self.open else {
-            return Err(line.fault(18, 0));
+            return Err(line.fault(Cause::Order).into());
         };
-        if let Some(place) = fields.out_of_range() {
-            return Err(line.fault(1, place.saturating_add(1)));
-        }
-        if !self.panel.has_letter(*node) {
-            return Err(line.fault(19, 2));
+        line.check_range(fields.out_of_range())?;
+        if !self.panel.has_letter(node) {
+            return Err(line.fault_at(2, Cause::NodeLine).into());
         }
         open.steps.push(fields)?;
         Ok(())
     }
 
     // The chain that was being read goes into the panel, or has fault 2, 3, 4 or 5.
-    fn complete(&mut self, alloc: Global) -> Result<(), Halt> {
+    fn complete(&mut self) -> Result<(), Halt> {
         let Some(open) = self.open.take() else {
             return Ok(());
         };
-        match self.panel.add(alloc, open.fields, open.steps.as_slice())? {
-            Answer::Refused { number, beside: _ } => Err(told_at(number, open.line, 0)),
-            _ => Ok(()),
+        if let Err(why) = self.panel.add(open.fields, open.steps.as_slice())? {
+            let cause = Cause::Chain(why);
+            let spot = Spot::Line { line: open.line };
+            return Err(Halt::Fault(Fault { cause, spot }));
         }
+        Ok(())
     }
 
-    fn line(&mut self, alloc: Global, number: u64, bytes: &[u8]) -> Result<(), Halt> {
-        let line = FieldLine::new(alloc, number, bytes)?;
+    fn line(&mut self, number: u64, bytes: &[u8]) -> Result<(), Halt> {
+        let line = FieldLine::new(self.alloc, number, bytes)?;
         match line.kind()? {
-            Kind::Node => self.node_line(alloc, &line),
-            Kind::Chain => self.chain_line(alloc, &line),
-            Kind::Step => self.step_line(alloc, &line),
+            Kind::Node => self.node_line(&line),
+            Kind::Chain => self.chain_line(&line),
+            Kind::Step => self.step_line(&line),
         }
     }
 }
@@ -277,62 +328,58 @@ impl Reader {
 // Faults 11 and 12, and else the lines of a text.
 fn lines_of(alloc: Global, text: &[u8]) -> Result<Vec<Vec<u8>>, Halt> {
     if text.len() > LONGEST_TEXT {
-        return Err(told_at(11, 0, 0));
+        let spot = Spot::Text;
+        let cause = Cause::TooLong;
+        return Err(Halt::Fault(Fault { cause, spot }));
     }
-    let mut lines = cut(alloc, text, LINE_FEED)?;
-    let pieces = lines.len() as u64;
+    let mut lines = cut(alloc, text, b'\n')?;
+    let line = lines.len() as u64;
     // what stands behind the last line feed
     let rest = lines.pop();
-    match rest {
-        Some(rest) if !rest.is_empty() => Err(told_at(12, pieces, 0)),
-        _ => Ok(lines),
+    if rest.is_some_and(|rest| !rest.is_empty()) {
+        let spot = Spot::Line { line };
+        let cause = Cause::Unended;
+        return Err(Halt::Fault(Fault { cause, spot }));
     }
+    Ok(lines)
 }
 
 // The panel that a text gives, not yet solved.
 pub fn read(alloc: Global, text: &[u8]) -> Result<Panel, Halt> {
     let lines = lines_of(alloc, text)?;
     let mut reader = Reader {
-        panel: Panel::new(alloc, Vec::new(alloc)),
+        alloc,
+        panel: Panel::new(alloc, BTreeMap::new(alloc)),
         open: None,
     };
-    let mut number: u64 = 0;
-    for line in lines.iter() {
-        number = number.saturating_add(1);
-        reader.line(alloc, number, line.as_slice())?;
+    for (number, line) in (1u64..).zip(lines.iter()) {
+        reader.line(number, line.as_slice())?;
     }
-    reader.complete(alloc)?;
+    reader.complete()?;
     Ok(reader.panel)
 }
 
-fn fault_line(alloc: Global, fault: &Fault) -> Result<Vec<u8>, AllocError> {
-    let number = fault.number;
-    let line = fault.line;
-    let field = fault.field;
-    let words = format!(in alloc; "refused,{number},{line},{field}\n")?;
-    words.as_bytes().to_vec(alloc)
-}
-
 // What is printed of a panel that was read.
-fn solved_bytes(alloc: Global, panel: &mut Panel) -> Result<Vec<u8>, AllocError> {
-    if let Answer::Refused { number, beside } = panel.solve(alloc)? {
-        let words = format!(in alloc; "refused,{number},{beside}\n")?;
-        return words.as_bytes().to_vec(alloc);
-    }
-    match panel.listing(alloc)? {
-        Some(bytes) => Ok(bytes),
-        None => Ok(Vec::new(alloc)),
+fn solved_text(alloc: Global, panel: &mut Panel) -> Result<String, AllocError> {
+    let listing = match panel.solve()? {
+        Ok(_) => panel.listing()?,
+        Err(why) => Err(why),
+    };
+    match listing {
+        Ok(text) => Ok(text),
+        Err(why) => {
+            let number = why.number();
+            let beside = why.beside().unwrap_or(0);
+            format!(in alloc; "refused,{number},{beside}\n")
+        }
     }
 }
 
 // What is printed of a text.
-pub fn printed(alloc: Global, text: &[u8]) -> Result<Vec<u8>, AllocError> {
+pub fn printed(alloc: Global, text: &[u8]) -> Result<String, AllocError> {
     match read(alloc, text) {
-        Ok(panel) => {
-            let mut solving = panel;
-            solved_bytes(alloc, &mut solving)
-        }
-        Err(Halt::Fault(fault)) => fault_line(alloc, &fault),
+        Ok(mut panel) => solved_text(alloc, &mut panel),
+        Err(Halt::Fault(fault)) => format!(in alloc; "{fault}\n"),
         Err(Halt::Memory) => Err(AllocError),
     }
 }
