@@ -45,37 +45,13 @@ impl Source {
         }
     }
 
-    // Whether a job released at this instant is due in time. If not, neither is any later job of the row.
-    fn is_due(&self, instant: u64, due: u64) -> bool {
-        instant.saturating_add(self.local) <= due
-    }
-
-    // The next job that counts is the one of this instant, if any.
-    fn go_to(&mut self, instant: u64, due: u64) {
-        self.next = if self.is_due(instant, due) {
+    // The instant of a release, if the job is due in time. If not, neither is any later job of the row.
+    fn if_due(&self, instant: u64, due: u64) -> u64 {
+        if instant.saturating_add(self.local) <= due {
             instant
         } else {
             NEVER
-        };
-    }
-
-    // Starts a scan: the work of the jobs released at instant 0.
-    fn begin(&mut self, due: u64) -> u64 {
-        self.go_to(self.later, due);
-        if self.is_due(0, due) {
-            self.together.saturating_mul(self.cost)
-        } else {
-            0
         }
-    }
-
-    // Goes on with a scan: the work of the job released at this later instant, if there is one.
-    fn pass(&mut self, instant: u64, due: u64) -> u64 {
-        if self.next != instant {
-            return 0;
-        }
-        self.go_to(instant.saturating_add(self.period), due);
-        self.cost
     }
 }
 
@@ -86,37 +62,32 @@ struct Batch {
     next: u64,
 }
 
-impl Batch {
-    const EMPTY: Batch = Batch {
-        work: 0,
-        next: NEVER,
-    };
-
-    // With the work of one more row, and its next job.
-    fn and(self, work: u64, next: u64) -> Batch {
-        Batch {
-            work: self.work.saturating_add(work),
-            next: self.next.min(next),
+// Starts a scan: the jobs released at instant 0.
+fn first_batch(sources: &mut [Source], due: u64) -> Batch {
+    let mut work: u64 = 0;
+    let mut next = NEVER;
+    for source in sources {
+        source.next = source.if_due(source.later, due);
+        next = next.min(source.next);
+        if source.local <= due {
+            work = work.saturating_add(source.together.saturating_mul(source.cost));
         }
     }
-}
-
-// Starts a scan: the jobs released at instant 0.
-fn begin(sources: &mut [Source], due: u64) -> Batch {
-    let mut batch = Batch::EMPTY;
-    for source in sources {
-        batch = batch.and(source.begin(due), source.next);
-    }
-    batch
+    Batch { work, next }
 }
 
 // Goes on with a scan: the jobs released at this later instant.
-fn pass(sources: &mut [Source], instant: u64, due: u64) -> Batch {
-    let mut batch = Batch::EMPTY;
+fn batch_at(sources: &mut [Source], instant: u64, due: u64) -> Batch {
+    let mut work: u64 = 0;
+    let mut next = NEVER;
     for source in sources {
-        batch = batch.and(source.pass(instant, due), source.next);
+        if source.next == instant {
+            work = work.saturating_add(source.cost);
+            source.next = source.if_due(instant.saturating_add(source.period), due);
+        }
+        next = next.min(source.next);
     }
-    batch
+    Batch { work, next }
 }
 
 // The least window of at least one tick that equals the work in it: the row's own work and that of the jobs that count.
@@ -124,7 +95,7 @@ fn pass(sources: &mut [Source], instant: u64, due: u64) -> Batch {
 pub fn least_window(own: u64, sources: &mut [Source], due: Option<u64>, limit: u64) -> Option<u64> {
     // every instant is due by the last of all
     let due = due.unwrap_or(u64::MAX);
-    let first = begin(sources, due);
+    let first = first_batch(sources, due);
     let mut work = own.saturating_add(first.work);
     let mut next = first.next;
     let mut window: u64 = 1;
@@ -136,7 +107,7 @@ pub fn least_window(own: u64, sources: &mut [Source], due: Option<u64>, limit: u
         if next >= limit {
             return None;
         }
-        let batch = pass(sources, next, due);
+        let batch = batch_at(sources, next, due);
         work = work.saturating_add(batch.work);
         window = next.saturating_add(1);
         next = batch.next;
