@@ -41,7 +41,7 @@ pub fn open(letters: &BTreeMap<u64, Letter>) -> Result<ProductPlan, RecordFault>
 }
 
 fn chain_of(work: &Work) -> Result<Chain, RecordFault> {
-    Chain::new(records::ChainFields {
+    Chain::try_from(records::ChainFields {
         id: small(work.chain.id),
         period: small(work.chain.period),
         deadline: EndToEndDeadline {
