@@ -19,7 +19,7 @@ loop-row-preserved g c =
 pub returns : goal.returns
 returns g c =
     let p = c.args.self.now.plan.now in
-    let end : c.loop-row.row ≡ length p.table.rows = omega arith in
+    let end : c.loop-row.row ≡ length p.table.rows.items = omega arith in
     let last = ap (λ n. length (so_far (contents p.table) c.args.self.now.rounds n)) end in
-    let whole = ap length (listing_is (contents p.table) c.args.self.now.rounds (length p.table.rows) (ap length (rows_are p.table.entries.items p.table.rows p.rows_counted))) in
+    let whole = ap length (listing_is (contents p.table) c.args.self.now.rounds (length p.table.rows.items) (ap length (rows_are p.table.entries.items p.table.rows.items p.rows_counted))) in
     omega (arith, c.loop-row.invariant)

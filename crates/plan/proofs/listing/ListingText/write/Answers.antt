@@ -10,7 +10,7 @@ use Rattle.plan.proofs.listing.ListingText.write.Goals as goal
 pub write-end-requires : goal.write-end-requires
 write-end-requires g c =
     let p = c.args.self.now.plan.now in
-    let enough = heading_room (contents p.table) c.args.self.now.rounds (length p.table.rows) (ap length (rows_are p.table.entries.items p.table.rows p.rows_counted)) in
+    let enough = heading_room (contents p.table) c.args.self.now.rounds (length p.table.rows.items) (ap length (rows_are p.table.entries.items p.table.rows.items p.rows_counted)) in
     omega (arith, c.requires)
 
 pub loop-row-init : goal.loop-row-init
@@ -20,7 +20,7 @@ pub write-end-requires-in-loop-row : goal.write-end-requires-in-loop-row
 write-end-requires-in-loop-row g c =
     let p = c.args.self.now.plan.now in
     let rounds = c.args.self.now.rounds in
-    let enough = row_room (contents p.table) rounds (length p.table.rows) (ap length (rows_are p.table.entries.items p.table.rows p.rows_counted)) c.loop-row.row (omega arith) in
+    let enough = row_room (contents p.table) rounds (length p.table.rows.items) (ap length (rows_are p.table.entries.items p.table.rows.items p.rows_counted)) c.loop-row.row (omega arith) in
     let line = ap (λ ns. length (line_bytes (codes "step") ns)) c.row_line.ensures in
     omega (arith, c.requires, c.loop-row.invariant.value)
 
@@ -30,7 +30,7 @@ loop-row-preserved g c =
     let s = contents p.table in
     let rounds = c.args.self.now.rounds in
     let k = c.loop-row.row in
-    let enough = row_room s rounds (length p.table.rows) (ap length (rows_are p.table.entries.items p.table.rows p.rows_counted)) k (omega arith) in
+    let enough = row_room s rounds (length p.table.rows.items) (ap length (rows_are p.table.entries.items p.table.rows.items p.rows_counted)) k (omega arith) in
     let more = length_more s rounds k in
     let line = ap (line_bytes (codes "step")) c.row_line.ensures in
     let size = ap length line in
@@ -44,6 +44,6 @@ loop-row-preserved g c =
 pub returns : goal.returns
 returns g c =
     let p = c.args.self.now.plan.now in
-    let end : c.loop-row.row ≡ length p.table.rows = omega arith in
+    let end : c.loop-row.row ≡ length p.table.rows.items = omega arith in
     let i = c.loop-row.invariant in
-    rw (listing_is (contents p.table) c.args.self.now.rounds (length p.table.rows) (ap length (rows_are p.table.entries.items p.table.rows p.rows_counted))) (record { value = rw end at i.value; after = rw end at i.after })
+    rw (listing_is (contents p.table) c.args.self.now.rounds (length p.table.rows.items) (ap length (rows_are p.table.entries.items p.table.rows.items p.rows_counted))) (record { value = rw end at i.value; after = rw end at i.after })
