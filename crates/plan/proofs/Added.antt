@@ -43,10 +43,10 @@ add_refused answer s c steps why e = record { value = e; run = add_refused_keeps
 
 -- ## What a plan holds after it
 
-module _ (t : Table) (counted : steps_in t.entries.items ≡ length t.rows) (c : Chain) (steps : List StepFields) where
+module _ (t : Table) (counted : steps_in t.entries.items ≡ length t.rows.items) (c : Chain) (steps : List StepFields) where
   pub contents_added : contents (appended t c.fields steps) ≡ added (contents t) c steps
   contents_added =
-      let push = chains_push t.entries.items (record { fields = c.fields; steps = length steps }) t.rows (map (row_of c.fields.period) steps) counted (sym (length-map steps (row_of c.fields.period))) in
+      let push = chains_push t.entries.items (record { fields = c.fields; steps = length steps }) t.rows.items (map (row_of c.fields.period) steps) counted (sym (length-map steps (row_of c.fields.period))) in
       rw push refl
 
   pub add_accepted : (answer : Meaning) → Ok Done ≡ add_answer (chains_of t) c steps → AddMade answer (contents t) (contents (appended t c.fields steps)) c steps (Ok Done)
@@ -56,12 +56,12 @@ pub passes_append : {A : Type 0} (p : A → Bool) (xs ys : List A) → list_all 
 passes_append p [] ys e f = f
 passes_append p (x ∷ xs) ys e f = let (a, b) = and_parts (p x) (list_all p xs) e in rw a (passes_append p xs ys b f)
 
-pub sound_added : (t : Table) → Sound t → (c : Chain) (steps : List StepFields) → first_bad steps ≡ None → length t.rows + length steps ≤ 64 → Sound (appended t c.fields steps)
+pub sound_added : (t : Table) → Sound t → (c : Chain) (steps : List StepFields) → first_bad steps ≡ None → length t.rows.items + length steps ≤ 64 → Sound (appended t c.fields steps)
 sound_added t s c steps good rows =
     let counted = s.rows_counted in
     let push = steps_push t.entries.items (record { fields = c.fields; steps = length steps }) in
     let more = map (row_of c.fields.period) steps in
-    let l = length-append t.rows more in
+    let l = length-append t.rows.items more in
     let m = length-map steps (row_of c.fields.period) in
     let before = fitting t t.responses.items s.responses_fit in
     let one_each = length-append t.responses.items _ ∙ ap₂ ◌+◌ before.one_each (length-replicate _ _ ∙ sym m) ∙ sym l in
@@ -69,7 +69,7 @@ sound_added t s c steps good rows =
       few_rows = omega arith;
       rows_counted = omega arith;
       chains_fit = passes_append entry_fits t.entries.items (record { fields = c.fields; steps = length steps } ∷ []) s.chains_fit (rw c.in_range);
-      rows_fit = passes_append row_fits t.rows more s.rows_fit (passes_from row_fits Fits (λ r h. h) more (rows_fit c steps good));
+      rows_fit = passes_append row_fits t.rows.items more s.rows_fit (passes_from row_fits Fits (λ r h. h) more (rows_fit c steps good));
       responses_fit = fits_in (appended t c.fields steps) _ one_each (passes_append response_fits t.responses.items (replicate (length steps) 0) before.small (zeros_pass (length steps)));
     }
 
@@ -77,11 +77,11 @@ sound_added t s c steps good rows =
 pub record Tested (t : Table) (steps : List StepFields) : Type 0 where
   pub fields : first_bad steps ≡ None
   pub chains : length t.entries.items < 16
-  pub rows : length t.rows + length steps ≤ 64
+  pub rows : length t.rows.items + length steps ≤ 64
 
-pub tested : (t : Table) → steps_in t.entries.items ≡ length t.rows → (c : Chain) (steps : List StepFields) → Ok Done ≡ add_answer (chains_of t) c steps → Tested t steps
+pub tested : (t : Table) → steps_in t.entries.items ≡ length t.rows.items → (c : Chain) (steps : List StepFields) → Ok Done ≡ add_answer (chains_of t) c steps → Tested t steps
 tested t counted c steps e =
     let d = add_done (chains_of t) c steps e in
-    let rows = ap length (rows_are t.entries.items t.rows counted) in
-    let chains = length_chains t.entries.items t.rows in
+    let rows = ap length (rows_are t.entries.items t.rows.items counted) in
+    let chains = length_chains t.entries.items t.rows.items in
     record { fields = d.fields; chains = omega (arith, d.chains); rows = omega (arith, d.rows) }

@@ -48,21 +48,21 @@ some_span cs i = by (holds cs i)
     by false = refl
 
 -- the tests for room, each on the memory
-module _ (t : Table) (counted : steps_in t.entries.items ≡ length t.rows) (id n : ℕ) (low : (n ≡ 0) → ⊥) (high : n ≤ 16) where
+module _ (t : Table) (counted : steps_in t.entries.items ≡ length t.rows.items) (id n : ℕ) (low : (n ≡ 0) → ⊥) (high : n ≤ 16) where
   chains : length (chains_of t) ≡ length t.entries.items
-  chains = length_chains t.entries.items t.rows
+  chains = length_chains t.entries.items t.rows.items
 
-  rows : length (rows_of (chains_of t)) ≡ length t.rows
-  rows = ap length (rows_are t.entries.items t.rows counted)
+  rows : length (rows_of (chains_of t)) ≡ length t.rows.items
+  rows = ap length (rows_are t.entries.items t.rows.items counted)
 
   pub chains_full : 16 ≤ length t.entries.items → Err ChainsFull ≡ room_answer (chains_of t) id n
   chains_full h = rw (le-leb 1 n (omega (arith, low)), le-leb n 16 high, lt-leb (length (chains_of t) + 1) 16 (omega (arith, chains)))
 
   module _ (few : length t.entries.items < 16) where
-    pub steps_full : 64 < length t.rows + n → Err StepsFull ≡ room_answer (chains_of t) id n
+    pub steps_full : 64 < length t.rows.items + n → Err StepsFull ≡ room_answer (chains_of t) id n
     steps_full h = rw (le-leb 1 n (omega (arith, low)), le-leb n 16 high, le-leb (length (chains_of t) + 1) 16 (omega (arith, chains)), lt-leb (length (rows_of (chains_of t)) + n) 64 (omega (arith, rows)))
 
-    module _ (fits : length t.rows + n ≤ 64) (span : Option Span) (found : span ≡ span_of (chains_of t) id) where
+    module _ (fits : length t.rows.items + n ≤ 64) (span : Option Span) (found : span ≡ span_of (chains_of t) id) where
       pub id_held : is_some span ≡ true → Err IdHeld ≡ room_answer (chains_of t) id n
       id_held e =
           let held : holds (chains_of t) id ≡ true = sym (some_span (chains_of t) id) ∙ ap is_some (sym found) ∙ e in

@@ -40,10 +40,10 @@ span_shows cs i s e = by (holds cs i) refl e
     by true t e = let f : s ≡ record { entry = chain_number cs i; first = first_row cs i; steps = steps_of cs i } = cc in record { holds = t; entry = ap (λ (x : Span). x.entry) f; first = ap (λ (x : Span). x.first) f; steps = ap (λ (x : Span). x.steps) f }
     by false t e = let z : ◌≡◌ {A = ℕ} 0 1 = cc in absurd (omega arith)
 
-pub row_inside : (t : Table) → steps_in t.entries.items ≡ length t.rows → (id k : ℕ) (s : Span) → Some s ≡ span_of (chains_of t) id → ((k ≡ 0) → ⊥) → k ≤ s.steps → s.first + (k - 1) < length t.rows
+pub row_inside : (t : Table) → steps_in t.entries.items ≡ length t.rows.items → (id k : ℕ) (s : Span) → Some s ≡ span_of (chains_of t) id → ((k ≡ 0) → ⊥) → k ≤ s.steps → s.first + (k - 1) < length t.rows.items
 row_inside t counted id k s found low high =
     let spans = span_shows (chains_of t) id s found in
-    let n = ap length (rows_are t.entries.items t.rows counted) in
+    let n = ap length (rows_are t.entries.items t.rows.items counted) in
     let steps = spans.steps in
     let inside = place_inside (chains_of t) id k (omega (arith, low)) (omega arith) in
     omega (arith, spans.first)

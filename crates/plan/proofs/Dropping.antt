@@ -129,18 +129,18 @@ length_removed xs at gap h =
 
 module _ (t : Table) (before : Sound t) (id : ℕ) (span : Span) (found : Spans (chains_of t) id span) where
   -- where the chain's rows lie
-  pub span_inside : (span.entry < length t.entries.items) × (span.first + span.steps ≤ length t.rows)
+  pub span_inside : (span.entry < length t.entries.items) × (span.first + span.steps ≤ length t.rows.items)
   span_inside =
-      let rows = ap length (rows_are t.entries.items t.rows before.rows_counted) in
-      let chains = length_chains t.entries.items t.rows in
+      let rows = ap length (rows_are t.entries.items t.rows.items before.rows_counted) in
+      let chains = length_chains t.entries.items t.rows.items in
       let chain = chain_inside (chains_of t) id found.holds in
       let inside = rows_inside (chains_of t) id found.holds in
       (omega (arith, found.entry), omega (arith, found.first, found.steps))
 
-  counted_left : steps_in (removed t span).entries.items ≡ length (removed t span).rows
+  counted_left : steps_in (removed t span).entries.items ≡ length (removed t span).rows.items
   counted_left =
-      let l = length_removed t.rows span.first span.steps span_inside.1 in
-      let left = steps_kept id t.entries.items t.rows before.rows_counted found.holds in
+      let l = length_removed t.rows.items span.first span.steps span_inside.1 in
+      let left = steps_kept id t.entries.items t.rows.items before.rows_counted found.holds in
       let counted = before.rows_counted in
       let steps = found.steps in
       rw found.entry (omega arith)
@@ -148,18 +148,18 @@ module _ (t : Table) (before : Sound t) (id : ℕ) (span : Span) (found : Spans 
   pub sound_removed : Sound (removed t span)
   sound_removed =
       let few = before.few_rows in
-      let l = length_removed t.rows span.first span.steps span_inside.1 in
+      let l = length_removed t.rows.items span.first span.steps span_inside.1 in
       record {
         few_rows = omega arith;
         rows_counted = counted_left;
         chains_fit = passes_append entry_fits (take span.entry t.entries.items) _ (passes_take entry_fits span.entry t.entries.items before.chains_fit) (passes_drop entry_fits (suc span.entry) t.entries.items before.chains_fit);
-        rows_fit = passes_append row_fits (take span.first t.rows) _ (passes_take row_fits span.first t.rows before.rows_fit) (passes_drop row_fits (span.first + span.steps) t.rows before.rows_fit);
+        rows_fit = passes_append row_fits (take span.first t.rows.items) _ (passes_take row_fits span.first t.rows.items before.rows_fit) (passes_drop row_fits (span.first + span.steps) t.rows.items before.rows_fit);
         responses_fit = forgotten_fits (removed t span);
       }
 
   pub contents_dropped : contents (removed t span) ≡ dropped (contents t) id
   contents_dropped =
-      let chains : chains_of (removed t span) ≡ without id (chains_of t) = rw (found.entry, found.first, found.steps) (without_is id t.entries.items t.rows before.rows_counted found.holds) in
+      let chains : chains_of (removed t span) ≡ without id (chains_of t) = rw (found.entry, found.first, found.steps) (without_is id t.entries.items t.rows.items before.rows_counted found.holds) in
       forgotten_anew (removed t span) counted_left ∙ ap anew chains
 
 -- a drop's answer, with its step of the law over runs

@@ -1,7 +1,6 @@
 pub mod Added
 pub mod Adding
 pub mod Asking
-pub mod Closing
 pub mod Dropping
 pub mod Listed
 pub mod Memory

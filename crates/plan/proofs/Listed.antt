@@ -53,16 +53,16 @@ module _ (s : Contents) where
     listing_is n all = rw all
 
 -- the room that each write of the listing needs
-module _ (t : Table) (counted : steps_in t.entries.items ≡ length t.rows) (rounds : ℕ) where
-  pub all_rows : listing_bytes (contents t) rounds ≡ so_far (contents t) rounds (length t.rows)
-  all_rows = listing_is (contents t) rounds (length t.rows) (ap length (rows_are t.entries.items t.rows counted))
+module _ (t : Table) (counted : steps_in t.entries.items ≡ length t.rows.items) (rounds : ℕ) where
+  pub all_rows : listing_bytes (contents t) rounds ≡ so_far (contents t) rounds (length t.rows.items)
+  all_rows = listing_is (contents t) rounds (length t.rows.items) (ap length (rows_are t.entries.items t.rows.items counted))
 
   pub heading_room : length (line_bytes (codes "rounds") (rounds ∷ [])) ≤ length (listing_bytes (contents t) rounds)
   heading_room =
-      let none = ap length (so_far_none (contents t) rounds) in let whole = ap length all_rows in let p = part (contents t) rounds 0 (length t.rows) (omega arith) in omega arith
+      let none = ap length (so_far_none (contents t) rounds) in let whole = ap length all_rows in let p = part (contents t) rounds 0 (length t.rows.items) (omega arith) in omega arith
 
-  pub row_room : (k : ℕ) → k < length t.rows → length (so_far (contents t) rounds k) + length (row_line (contents t).chains (contents t).start k) ≤ length (listing_bytes (contents t) rounds)
+  pub row_room : (k : ℕ) → k < length t.rows.items → length (so_far (contents t) rounds k) + length (row_line (contents t).chains (contents t).start k) ≤ length (listing_bytes (contents t) rounds)
   row_room k inside =
-      let more = length_more (contents t) rounds k in let whole = ap length all_rows in let p = part (contents t) rounds (k + 1) (length t.rows) (omega arith) in omega arith
+      let more = length_more (contents t) rounds k in let whole = ap length all_rows in let p = part (contents t) rounds (k + 1) (length t.rows.items) (omega arith) in omega arith
 
 pub ruleset room = (heading_room, row_room)

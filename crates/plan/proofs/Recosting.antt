@@ -1,9 +1,10 @@
 -- Another cost for one step: what a plan holds after a recost, and the recost's step of the law over runs.
-use Rattle.std.proofs.Common.{◌≡◌, ℕ, zero, suc, ◌+◌, ◌-◌, ◌<◌, ◌≤◌, Bool, true, false, cond, ◌||◌, eqb, ◌⊎◌, List, [], ◌∷◌, length, take, drop, set, Option, Ok, Err, Result, sym, refl, ap, ◌∙◌, inl, inr, zero-add, arith, length-set, get_or-drop, get_or-take}
-use Rattle.arrayvec.specs.ArrayVec.{ArrayVec}
+use Rattle.std.proofs.Common.{◌≡◌, ℕ, zero, suc, ◌+◌, ◌-◌, ◌<◌, ◌≤◌, Bool, true, false, cond, ◌||◌, eqb, ◌⊎◌, List, [], ◌∷◌, length, take, drop, set, Ok, Err, Result, sym, refl, ap, ◌∙◌, inl, inr, zero-add, arith, length-set, get_or-drop, get_or-take}
+use Rattle.arrayvec.specs.ArrayVec.{with_items}
+use Rattle.arrayvec.proofs.ArrayVecLemmas.{items-with_items}
 use mathlib.Core.Bool.{false≢true}
 use lib.Seq.{take-set-lt, take-set-le}
-use Rattle.std.proofs.lemmas.List.{length-take, length-take-le, length-drop, drop-set-lt, drop-set-add}
+use Rattle.std.proofs.lemmas.List.{length-take-le, length-drop, drop-set-lt, drop-set-add}
 use Rattle.std.proofs.lemmas.Bool.{le-leb, lt-leb}
 use Rattle.records.specs.declared.fields.Row.{Row}
 use Rattle.records.specs.Ranges.{within, row_fits}
@@ -88,16 +89,15 @@ recosted_is id k cost (e ∷ es) rows h n =
 
 -- the memory with another cost at one row
 abbrev pub cost_at : Table → ℕ → ℕ → Table
-cost_at t n cost = record { entries = t.entries; rows = costing_at n cost t.rows; responses = t.responses; standing = t.standing }
+cost_at t n cost = record { entries = t.entries; rows = record { items = costing_at n cost t.rows.items }; responses = t.responses; standing = t.standing }
 
--- a write to the row's place in the array is that
-pub row_written : {t : Table} {entries : ArrayVec Entry} {responses : ArrayVec ℕ} {standing : Option ℕ} {n : ℕ} {place : Row} (places : List Row) (count cost : ℕ) →
-    record { entries = entries; rows = take count places; responses = responses; standing = standing } ≡ t → n < length t.rows → place ≡ costing cost (row t.rows n) →
-    record { entries = entries; rows = take count (set places n place); responses = responses; standing = standing } ≡ cost_at t n cost
-row_written {t} {entries} {responses} {standing} {n} {place} places count cost is inside e =
-    let l = length-take count places in
-    let m = ap (λ (u : Table). length u.rows) is in
-    rw (← is, take-set-lt count places n place (omega arith)) (ap (λ r. record { entries = entries; rows = set (take count places) n r; responses = responses; standing = standing }) (e ∙ ap (λ (u : Table). costing cost (row u.rows n)) (sym is)))
+-- a write to the row's place in the list is that
+pub row_written : (t : Table) (n cost : ℕ) {xs : List Row} {place : Row} → xs ≡ t.rows.items → place ≡ costing cost (row t.rows.items n) →
+    record { entries = t.entries; rows = with_items t.rows (set xs n place); responses = t.responses; standing = t.standing } ≡ cost_at t n cost
+row_written t n cost is e =
+    let costed = set t.rows.items n (costing cost (row t.rows.items n)) in
+    let l = length-set t.rows.items n (costing cost (row t.rows.items n)) in
+    rw (is, e) (ap (λ (rows : List Row). record { entries = t.entries; rows = record { items = rows }; responses = t.responses; standing = t.standing }) (items-with_items t.rows costed l))
 
 passes_set : {A : Type 0} (p : A → Bool) (xs : List A) (i : ℕ) (y : A) → list_all p xs ≡ true → p y ≡ true → list_all p (set xs i y) ≡ true
 passes_set p [] i y e f = e
@@ -113,29 +113,29 @@ named_from cs i k n e = by (holds cs i) refl (within 1 (steps_of cs i) k) refl e
     by true p false q e = let z : ◌≡◌ {A = ℕ} 0 1 = cc in absurd (omega arith)
     by false p b q e = let z : ◌≡◌ {A = ℕ} 0 1 = cc in absurd (omega arith)
 
-module _ (t : Table) (before : Sound t) (n cost : ℕ) (inside : n < length t.rows) (range : (1 ≤ cost) × (cost ≤ 1000000)) where
-  counted : steps_in t.entries.items ≡ length (costing_at n cost t.rows)
-  counted = before.rows_counted ∙ sym (length-set t.rows n (costing cost (row t.rows n)))
+module _ (t : Table) (before : Sound t) (n cost : ℕ) (inside : n < length t.rows.items) (range : (1 ≤ cost) × (cost ≤ 1000000)) where
+  counted : steps_in t.entries.items ≡ length (costing_at n cost t.rows.items)
+  counted = before.rows_counted ∙ sym (length-set t.rows.items n (costing cost (row t.rows.items n)))
 
   pub sound_costed : Sound (cost_at t n cost)
   sound_costed =
       let few = before.few_rows in
-      let l = length-set t.rows n (costing cost (row t.rows n)) in
-      let fits = passes_each row_fits Fits (λ r h. h) t.rows before.rows_fit in
-      let fit = each_at Fits t.rows n no_row fits inside in
+      let l = length-set t.rows.items n (costing cost (row t.rows.items n)) in
+      let fits = passes_each row_fits Fits (λ r h. h) t.rows.items before.rows_fit in
+      let fit = each_at Fits t.rows.items n no_row fits inside in
       let kept = fitting t t.responses.items before.responses_fit in
       record {
         few_rows = omega arith;
         rows_counted = counted;
         chains_fit = before.chains_fit;
-        rows_fit = passes_set row_fits t.rows n (costing cost (row t.rows n)) before.rows_fit (costing_fits cost (row t.rows n) range fit);
+        rows_fit = passes_set row_fits t.rows.items n (costing cost (row t.rows.items n)) before.rows_fit (costing_fits cost (row t.rows.items n) range fit);
         responses_fit = fits_in (cost_at t n cost) t.responses.items (kept.one_each ∙ sym l) kept.small;
       }
 
   pub contents_recosted : (id k : ℕ) → Ok n ≡ row_named (chains_of t) id k → contents (forgotten (cost_at t n cost)) ≡ recosts (contents t) id k cost
   contents_recosted id k e =
       let (named, at) = named_from (chains_of t) id k n e in
-      let chains : chains_of (cost_at t n cost) ≡ recosted id k cost (chains_of t) = rw at (recosted_is id k cost t.entries.items t.rows before.rows_counted named) in
+      let chains : chains_of (cost_at t n cost) ≡ recosted id k cost (chains_of t) = rw at (recosted_is id k cost t.entries.items t.rows.items before.rows_counted named) in
       forgotten_anew (cost_at t n cost) counted ∙ ap anew chains
 
 -- a recost's answer, with its step of the law over runs

@@ -27,16 +27,16 @@ zeros_pass (suc n) = zeros_pass n
 
 -- after the responses are forgotten, what is left fits
 pub forgotten_fits : (t : Table) → responses_fit_in (forgotten t) (forgotten t).responses.items ≡ true
-forgotten_fits t = fits_in (forgotten t) (replicate (length t.rows) 0) (length-replicate _ _) (zeros_pass (length t.rows))
+forgotten_fits t = fits_in (forgotten t) (replicate (length t.rows.items) 0) (length-replicate _ _) (zeros_pass (length t.rows.items))
 
 -- what a plan's type promises of its memory
 abbrev pub Sound : Table → Type 0
 Sound t =
     record {
-      few_rows : length t.rows ≤ 64;
-      rows_counted : steps_in t.entries.items ≡ length t.rows;
+      few_rows : length t.rows.items ≤ 64;
+      rows_counted : steps_in t.entries.items ≡ length t.rows.items;
       chains_fit : list_all entry_fits t.entries.items ≡ true;
-      rows_fit : list_all row_fits t.rows ≡ true;
+      rows_fit : list_all row_fits t.rows.items ≡ true;
       responses_fit : responses_fit_in t t.responses.items ≡ true;
     }
 
@@ -47,8 +47,8 @@ pub sound_forgotten : (t : Table) → Sound t → Sound (forgotten t)
 sound_forgotten t s = record { few_rows = s.few_rows; rows_counted = s.rows_counted; chains_fit = s.chains_fit; rows_fit = s.rows_fit; responses_fit = forgotten_fits t }
 
 -- what it says then is the chains anew
-pub forgotten_anew : (t : Table) → steps_in t.entries.items ≡ length t.rows → contents (forgotten t) ≡ anew (chains_of t)
-forgotten_anew t counted = rw (rows_are t.entries.items t.rows counted) refl
+pub forgotten_anew : (t : Table) → steps_in t.entries.items ≡ length t.rows.items → contents (forgotten t) ≡ anew (chains_of t)
+forgotten_anew t counted = rw (rows_are t.entries.items t.rows.items counted) refl
 
 -- a solve's result and the plan after it
 pub record SolveDone (answer : Meaning) (before after : Contents) (a : Answer) : Type 0 where
@@ -66,7 +66,7 @@ module _ (answer : Meaning) (laws : Laws answer) where
         let o : solving answer (contents t) ≡ record { rounds = r.rounds; responses = Some kept.items } = rw is at (sym came) in
         done (contents t) (contents t') (Ok (Solved r.rounds)) (rw o) (rw (o, e))
 
-    pub solve_forgot : steps_in t.entries.items ≡ length t.rows → r.responses ≡ None → t' ≡ forgotten t → SolveDone answer (contents t) (contents t') (Err (NothingCarries r.rounds))
+    pub solve_forgot : steps_in t.entries.items ≡ length t.rows.items → r.responses ≡ None → t' ≡ forgotten t → SolveDone answer (contents t) (contents t') (Err (NothingCarries r.rounds))
     solve_forgot counted is e =
         let o : solving answer (contents t) ≡ record { rounds = r.rounds; responses = None } = rw is at (sym came) in
         done (contents t) (contents t') (Err (NothingCarries r.rounds)) (rw o) (rw (o, e) (forgotten_anew t counted))

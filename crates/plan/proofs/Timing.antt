@@ -45,14 +45,14 @@ response_small xs i fit h = each_at (λ x. x ≤ 1000000) xs i 0 (passes_each re
 
 -- responses that fit a memory: one for each row, and each is small
 pub record Fitting (t : Table) (xs : List ℕ) : Type 0 where
-  pub one_each : length xs ≡ length t.rows
+  pub one_each : length xs ≡ length t.rows.items
   pub small : list_all response_fits xs ≡ true
 
 pub fitting : (t : Table) (xs : List ℕ) → responses_fit_in t xs ≡ true → Fitting t xs
-fitting t xs e = let (a, b) = and_parts (eqb (length xs) (length t.rows)) (list_all response_fits xs) e in record { one_each = eqb-true (length xs) (length t.rows) a; small = b }
+fitting t xs e = let (a, b) = and_parts (eqb (length xs) (length t.rows.items)) (list_all response_fits xs) e in record { one_each = eqb-true (length xs) (length t.rows.items) a; small = b }
 
-pub fits_in : (t : Table) (xs : List ℕ) → length xs ≡ length t.rows → list_all response_fits xs ≡ true → responses_fit_in t xs ≡ true
-fits_in t xs e f = rw (f, eq-eqb (length xs) (length t.rows) e)
+pub fits_in : (t : Table) (xs : List ℕ) → length xs ≡ length t.rows.items → list_all response_fits xs ≡ true → responses_fit_in t xs ≡ true
+fits_in t xs e f = rw (f, eq-eqb (length xs) (length t.rows.items) e)
 
 pub first_before : (arrival : ℕ) (responses : List ℕ) (k step : ℕ) → step ≡ 0 → arrival ≡ before arrival responses k step
 first_before arrival responses k step e = rw (eq-eqb step 0 e)

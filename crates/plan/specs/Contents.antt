@@ -26,7 +26,7 @@ chains_from [] rows = []
 chains_from (e ∷ es) rows = record { chain = e.fields; rows = take e.steps rows } ∷ chains_from es (drop e.steps rows)
 
 abbrev pub chains_of : Table → List Held
-chains_of t = chains_from t.entries.items t.rows
+chains_of t = chains_from t.entries.items t.rows.items
 
 abbrev pub contents : Table → Contents
 contents t = record { chains = chains_of t; start = t.responses.items; standing = t.standing }
@@ -45,7 +45,7 @@ response_fits x = nat_le x 1000000
 
 -- one for each row, and each of them is
 abbrev pub responses_fit_in : Table → List ℕ → Bool
-responses_fit_in t xs = (length xs == length t.rows) && list_all response_fits xs
+responses_fit_in t xs = (length xs == length t.rows.items) && list_all response_fits xs
 
 -- ## Where things stand in it
 
@@ -75,7 +75,7 @@ with_responses t xs standing = record { entries = t.entries; rows = t.rows; resp
 
 -- with a zero for each row
 abbrev pub forgotten : Table → Table
-forgotten t = with_responses t (replicate (length t.rows) 0) None
+forgotten t = with_responses t (replicate (length t.rows.items) 0) None
 
 abbrev pub outcome_of : Settled → Outcome
 outcome_of r = record { rounds = r.rounds; responses = option_map (λ xs. xs.items) r.responses }
@@ -87,7 +87,7 @@ abbrev pub with_rows : Table → ℕ → List StepFields → Table
 with_rows t period steps =
     record {
       entries = t.entries;
-      rows = t.rows ++ map (row_of period) steps;
+      rows = record { items = t.rows.items ++ map (row_of period) steps };
       responses = record { items = t.responses.items ++ replicate (length steps) 0 };
       standing = t.standing;
     }
@@ -109,7 +109,7 @@ abbrev pub removed : Table → Span → Table
 removed t span =
     forgotten (record {
       entries = record { items = remove t.entries.items span.entry };
-      rows = remove_range t.rows span.first (span.first + span.steps);
+      rows = record { items = remove_range t.rows.items span.first (span.first + span.steps) };
       responses = t.responses;
       standing = t.standing;
     })

@@ -8,7 +8,7 @@ use records::{ChainFields, Row, StepFields};
 impl Table {
     // A row for each step, behind the rows held, with 0 to start from.
     fn append_rows(&mut self, period: u32, steps: &[StepFields])
-        requires rows { length self.old.rows + length steps.now ≤ 64 }
+        requires rows { length self.old.rows.items + length steps.now ≤ 64 }
         requires responses { length self.old.responses.items + length steps.now ≤ 64 }
         ensures { self.new ≡ with_rows self.old period steps.now }
     {
@@ -24,7 +24,7 @@ impl Table {
     // The chain behind the others.
     pub(crate) fn append(&mut self, fields: ChainFields, steps: &[StepFields])
         requires chains { length self.old.entries.items < 16 }
-        requires rows { length self.old.rows + length steps.now ≤ 64 }
+        requires rows { length self.old.rows.items + length steps.now ≤ 64 }
         requires responses { length self.old.responses.items + length steps.now ≤ 64 }
         ensures { self.new ≡ appended self.old fields steps.now }
     {

@@ -30,7 +30,7 @@ impl<R> Plan<R> {
     // The row of a chain's step, counted from 1, or 6 or 7.
     pub(crate) fn locate(&self, id: u32, step: u32) -> Result<usize, Refusal>
         ensures value { result ≡ row_named (chains_of self.now.table) id step }
-        ensures inside { IfOk result (λ row. row < length self.now.table.rows) }
+        ensures inside { IfOk result (λ row. row < length self.now.table.rows.items) }
     {
         let span = self.find(id).ok_or(Refusal::IdUnknown)?;
         let step = step as usize;
@@ -42,7 +42,7 @@ impl<R> Plan<R> {
 
     // The chain of a row, and the row's place in it.
     pub(crate) fn place(&self, row: usize) -> Place
-        requires { row < length self.now.table.rows }
+        requires { row < length self.now.table.rows.items }
         ensures value { Some result ≡ place_in (chains_of self.now.table) row }
         ensures fits { chain_fits result.chain ≡ true }
     {

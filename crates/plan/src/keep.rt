@@ -16,7 +16,7 @@ impl Table {
 
     // A zero for each row: no solve stands, and the next one starts anew.
     pub(crate) fn forget(&mut self)
-        requires { length self.old.rows ≤ length self.old.responses.items }
+        requires { length self.old.rows.items ≤ length self.old.responses.items }
         ensures { self.new ≡ forgotten self.old }
     {
         self.responses.truncate(self.rows.len());

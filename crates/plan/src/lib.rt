@@ -15,7 +15,6 @@ mod plan;
 mod recost;
 mod remove;
 mod round;
-mod rows;
 mod solve;
 mod table;
 

@@ -57,7 +57,7 @@ impl<R> Text for Listing<'_, R> {
 impl<R> Plan<R> {
     // The numbers of a row's line.
     fn row_line(&self, row: usize) -> [u32; 4]
-        requires { row < length self.now.table.rows }
+        requires { row < length self.now.table.rows.items }
         ensures { result ≡ row_fields (chains_of self.now.table) self.now.table.responses.items row }
     {
         let place = self.place(row);

@@ -4,9 +4,9 @@ ghost use Rattle.law.specs.State.{new_plan, Leads};
 ghost use Rattle.plan.specs.Contents.{contents};
 
 use crate::plan::Plan;
-use crate::rows::Rows;
 use crate::table::Table;
 use arrayvec::ArrayVec;
+use records::Blank;
 use rules::NodeRule;
 
 impl<R: NodeRule> Plan<R> {
@@ -18,7 +18,7 @@ impl<R: NodeRule> Plan<R> {
     {
         let table = Table {
             entries: ArrayVec::new(),
-            rows: Rows::new(),
+            rows: ArrayVec::new_in(Blank),
             responses: ArrayVec::new(),
             standing: None,
         };

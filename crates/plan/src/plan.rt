@@ -11,9 +11,9 @@ pub struct Plan<R> {
     pub(crate) rule: R,
     pub(crate) table: Table,
     // the capacity of the list, known by its type, said again for the proofs above
-    ghost few_rows: { length table.rows ≤ 64 },
-    ghost rows_counted: { steps_in table.entries.items ≡ length table.rows },
+    ghost few_rows: { length table.rows.items ≤ 64 },
+    ghost rows_counted: { steps_in table.entries.items ≡ length table.rows.items },
     ghost chains_fit: { list_all entry_fits table.entries.items ≡ true },
-    ghost rows_fit: { list_all row_fits table.rows ≡ true },
+    ghost rows_fit: { list_all row_fits table.rows.items ≡ true },
     ghost responses_fit: { responses_fit_in table table.responses.items ≡ true },
 }

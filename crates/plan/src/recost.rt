@@ -32,7 +32,10 @@ impl<R: NodeRule> Plan<R> {
         }
         let old = self.table.rows.as_slice()[row];
         let step = StepFields { cost, ..old.step };
-        overwrite(&mut self.table.rows.places[row], Row { step, ..old });
+        overwrite(
+            &mut self.table.rows.as_mut_slice()[row],
+            Row { step, ..old },
+        );
         self.table.forget();
         Ok(())
     }

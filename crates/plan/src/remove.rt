@@ -8,12 +8,13 @@ impl Table {
     // The chain goes out, with its rows and with every response.
     pub(crate) fn remove(&mut self, span: Span)
         requires chain { span.entry < length self.old.entries.items }
-        requires rows { span.first + span.steps ≤ length self.old.rows }
-        requires responses { length self.old.responses.items ≡ length self.old.rows }
+        requires few { length self.old.rows.items ≤ 64 }
+        requires rows { span.first + span.steps ≤ length self.old.rows.items }
+        requires responses { length self.old.responses.items ≡ length self.old.rows.items }
         ensures { self.new ≡ removed self.old span }
     {
         self.entries.remove(span.entry);
-        self.rows.close_up(span.first, span.steps);
+        drop(self.rows.drain(span.first..span.first + span.steps));
         self.forget();
     }
 }

@@ -20,7 +20,7 @@ pub(crate) struct Assignment<'a, R> {
 impl<R> Assignment<'_, R> {
     // The release jitter of a row.
     pub(crate) fn jitter(&self, row: usize) -> u32
-        requires { row < length self.now.plan.now.table.rows }
+        requires { row < length self.now.plan.now.table.rows.items }
         ensures { result ≡ slice_index (jitters_of (chains_of self.now.plan.now.table) self.now.responses.now) row }
     {
         let place = self.plan.place(row);
@@ -86,7 +86,7 @@ impl<R> Plan<R> {
 impl<R: NodeRule> Plan<R> {
     // The response of a row at these jitters, or `None` where it is over or past its chain's deadline.
     fn row_response(&self, row: usize, jitters: &[u32]) -> Option<u32>
-        requires { row < length self.now.table.rows }
+        requires { row < length self.now.table.rows.items }
         ensures value { result ≡ kept_within (slice_index (deadlines_of (chains_of self.now.table)) row) (R.answer self.now.rule (rows_of (chains_of self.now.table)) jitters.now row) }
         ensures small { IfSome result (λ response. response ≤ 1000000) }
     {

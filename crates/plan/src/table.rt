@@ -1,7 +1,6 @@
 // The memory of a plan: up to 16 chains and 64 steps, as plain numbers.
-use crate::rows::Rows;
 use arrayvec::ArrayVec;
-use records::{ChainFields, EndToEndDeadline};
+use records::{Blank, ChainFields, EndToEndDeadline, Row};
 
 // A chain that is held, with the number of its steps.
 #[derive(Clone, Copy)]
@@ -29,7 +28,7 @@ impl Default for Entry {
 #[derive(Drop)]
 pub(crate) struct Table {
     pub(crate) entries: ArrayVec<Entry, 16>,
-    pub(crate) rows: Rows,
+    pub(crate) rows: ArrayVec<Row, 64, Blank>,
     // where the next solve starts, for each row: the kept response, or 0
     pub(crate) responses: ArrayVec<u32, 64>,
     // the rounds of the accepted solve that stands, if one does

@@ -34,7 +34,7 @@ abbrev pub nodes_in : given.Nodes → reading.Nodes
 nodes_in n = record { letters = n.letters; given = n.given.by_node }
 
 abbrev pub chain_in : ChainBegun → Begun
-chain_in c = record { line = c.line; fields = c.chain.fields; steps = c.steps }
+chain_in c = record { line = c.line; fields = c.chain.fields; steps = c.steps.items }
 
 abbrev pub draft_in : Draft → reading.Draft
 draft_in (Nodes n) = of_nodes (nodes_in n)

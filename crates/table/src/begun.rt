@@ -1,11 +1,11 @@
 // A chain whose lines are being read.
-use crate::kept::KeptSteps;
-use records::Chain;
+use arrayvec::ArrayVec;
+use records::{Blank, Chain, StepFields};
 
-// `line` is the number of the chain's own line, and `steps` are its steps so far.
+// `line` is the number of the chain's own line, and `steps` are its steps so far. The seventeenth makes the chain too long, whatever comes after it.
 #[derive(Drop)]
 pub(crate) struct ChainBegun {
     pub(crate) line: u32,
     pub(crate) chain: Chain,
-    pub(crate) steps: KeptSteps,
+    pub(crate) steps: ArrayVec<StepFields, 17, Blank>,
 }

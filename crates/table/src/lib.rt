@@ -6,7 +6,6 @@ mod chains;
 mod draft;
 mod drafting;
 mod given;
-mod kept;
 mod nodes;
 mod reader;
 mod steps;

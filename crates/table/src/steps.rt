@@ -7,9 +7,9 @@ ghost use Rattle.table.specs.Drafts.{chain_in};
 
 use crate::begun::ChainBegun;
 use crate::given::{Given, WRONG_NODE};
-use crate::kept::KeptSteps;
+use arrayvec::ArrayVec;
 use lines::LineFault;
-use records::{Chain, ChainFields, Step, StepFields};
+use records::{Blank, Chain, ChainFields, Step, StepFields};
 
 // The record of a chain's line, or 1.
 pub(crate) fn chain_record(fields: ChainFields) -> Result<Chain, LineFault>
@@ -41,15 +41,15 @@ impl ChainBegun {
         ChainBegun {
             line,
             chain,
-            steps: KeptSteps::new(),
+            steps: ArrayVec::new_in(Blank),
         }
     }
 
-    // One step more.
+    // One step more; 17 steps stay as they are.
     pub(crate) fn with(mut self, step: StepFields) -> ChainBegun
         ensures { chain_in result ≡ with_step (chain_in self) step }
     {
-        self.steps.push(step);
+        let _ = self.steps.try_push(step);
         self
     }
 }

@@ -18,7 +18,7 @@ loop-row-preserved g c =
 pub returns : goal.returns
 returns g c =
     let p = c.args.self.now.plan.now in
-    let end : c.loop-row.row ≡ length p.table.rows = omega arith in
+    let end : c.loop-row.row ≡ length p.table.rows.items = omega arith in
     let last = ap (λ n. length (so_far (contents p.table) c.args.self.now.rounds n)) end in
     let whole = ap length (all_rows p.table p.rows_counted c.args.self.now.rounds) in
     omega (arith, c.loop-row.invariant)

@@ -31,7 +31,7 @@ pub returns-clause-value : goal.returns-clause-value
 returns-clause-value g c =
     let p = c.args.self.now.plan.now in
     let whole = ap length (all_rows p.table p.rows_counted c.args.self.now.rounds) in
-    let end : c.loop-row.row ≡ length p.table.rows = omega arith in
+    let end : c.loop-row.row ≡ length p.table.rows.items = omega arith in
     let last = ap (λ k. length (so_far (contents p.table) c.args.self.now.rounds k)) end in
     search rules
 
@@ -39,6 +39,6 @@ pub returns-clause-after : goal.returns-clause-after
 returns-clause-after g c =
     let p = c.args.self.now.plan.now in
     let whole = all_rows p.table p.rows_counted c.args.self.now.rounds in
-    let end : c.loop-row.row ≡ length p.table.rows = omega arith in
+    let end : c.loop-row.row ≡ length p.table.rows.items = omega arith in
     let room : c.args.at + length (listing_bytes (contents p.table) c.args.self.now.rounds) ≤ length c.args.buffer.now = search rules in
     rw (end, ← whole) at c.loop-row.invariant.after ∙ sym (fitting c.args.buffer.now c.args.at (listing_bytes (contents p.table) c.args.self.now.rounds) room)

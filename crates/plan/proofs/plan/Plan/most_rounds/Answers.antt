@@ -25,5 +25,5 @@ pub returns : goal.returns
 returns g c =
     let p = c.args.self.now in
     let left = none_left deadlines_in c.as_slice-held-items.result.now p.table.entries.items c.as_slice-held-items.ensures.value c.loop-held.held-index c.loop-held-test.false in
-    let total = deadlines_total p.table.entries.items p.table.rows (omega (arith, p.rows_counted)) in
+    let total = deadlines_total p.table.entries.items p.table.rows.items (omega (arith, p.rows_counted)) in
     omega (arith, c.loop-held.invariant)

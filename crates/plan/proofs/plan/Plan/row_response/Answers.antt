@@ -9,5 +9,5 @@ pub returns-clause-value : goal.returns-clause-value
 returns-clause-value g c =
     let p = c.args.self.now in
     let kept = filtered c.response.result c.filter.result c.place-latest.result.chain.deadline.ticks (λ x b h. search rules) c.filter.ensures in
-    rw (deadline_at (chains_of p.table) c.args.row c.place-latest.result c.place-latest.ensures.value, rows_are p.table.entries.items p.table.rows p.rows_counted)
-    (kept ∙ rw (c.response.ensures, c.as_slice.ensures) refl)
+    rw (deadline_at (chains_of p.table) c.args.row c.place-latest.result c.place-latest.ensures.value, rows_are p.table.entries.items p.table.rows.items p.rows_counted)
+    (kept ∙ rw (c.response.ensures, c.as_slice.ensures.value) refl)

@@ -22,5 +22,5 @@ returns g c =
       | else-place-eq0 w ↦ w.before-is ∙ later_before _ xs c.args.row place.step w.if-place-eq0.false
     ] in
     let fits = fitting p.table xs c.args.self.now.fit in
-    ap (λ rows. c.if-place-eq0.before + (row rows c.args.row).step.delay) c.as_slice.ensures
-    ∙ jitter_is p.table.entries.items p.table.rows p.rows_counted c.args.row c.requires xs fits.one_each place c.if-place-eq0.before c.place-place.ensures.value is
+    ap (λ rows. c.if-place-eq0.before + (row rows c.args.row).step.delay) c.as_slice.ensures.value
+    ∙ jitter_is p.table.entries.items p.table.rows.items p.rows_counted c.args.row c.requires xs fits.one_each place c.if-place-eq0.before c.place-place.ensures.value is
