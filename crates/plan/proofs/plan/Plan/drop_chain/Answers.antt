@@ -23,7 +23,7 @@ remove-requires g c =
     let p = c.args.self.now in
     let found = span_shows (chains_of p.table) c.args.id c.in_ok-span.span (sym c.in_ok-span.ensures.ok_part ∙ c.find.ensures) in
     let inside = span_inside p.table (sound p) c.args.id c.in_ok-span.span found in
-    record { chain = inside.0; rows = inside.1; responses = (fitting p.table p.table.responses.items p.responses_fit).one_each }
+    record { chain = inside.0; few = p.few_rows; rows = inside.1; responses = (fitting p.table p.table.responses.items p.responses_fit).one_each }
 
 pub invariant_of-self : goal.invariant_of-self
 invariant_of-self g c =

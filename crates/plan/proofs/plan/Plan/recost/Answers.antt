@@ -26,22 +26,8 @@ invariant_of-self g c =
     let n = c.in_ok-row.row in
     let inside = c.in_ok-row.ensures.inside in
     let low : 1 ≤ c.args.cost = omega (arith, c.if-cost-eq0.false) in
-    let rows = c.self.inside.0.1.0.0.1.0 in
-    let place = c.overwrite.ensures ∙ ap (λ (rs : List Row). costing c.args.cost (row rs n)) (c.as_slice.ensures ∙ ap (λ (t : Table). t.rows.items) view) in
-    let wrote = row_written rows.places rows.count c.args.cost view inside place in
-    subst Sound (sym wrote) (sound_costed p.table (sound p) n c.args.cost inside (low, c.if-cost-gt1000000.false))
-
-pub invariant_of-self-3 : goal.invariant_of-self-3
-unfolding no_row
-invariant_of-self-3 g c =
-    let p = c.args.self.now in
-    let n = c.in_ok-row.row in
-    let view = ap (λ (q : Plan _). q.table) c.self.view_is in
-    let inside = c.in_ok-row.ensures.inside in
-    let low : 1 ≤ c.args.cost = omega (arith, c.if-cost-eq0.false) in
-    let rows = c.self.inside.0.1.0.0.1.0 in
-    let place = c.overwrite.ensures ∙ ap (λ (rs : List Row). costing c.args.cost (row rs n)) (c.as_slice.ensures ∙ ap (λ (t : Table). t.rows.items) view) in
-    let is : c.forget.new.self ≡ forgotten (cost_at p.table n c.args.cost) = c.forget.ensures ∙ ap forgotten (row_written rows.places rows.count c.args.cost view inside place) in
+    let place = c.overwrite.ensures ∙ ap (λ (rs : List Row). costing c.args.cost (row rs n)) c.as_slice.ensures.value in
+    let is : c.forget.new.self ≡ forgotten (cost_at p.table n c.args.cost) = c.forget.ensures ∙ ap forgotten (row_written p.table n c.args.cost c.as_mut_slice.ensures.value place) in
     subst Sound (sym is) (sound_forgotten (cost_at p.table n c.args.cost) (sound_costed p.table (sound p) n c.args.cost inside (low, c.if-cost-gt1000000.false)))
 
 pub returns : goal.returns
@@ -51,9 +37,8 @@ returns g c =
     let n = c.in_ok-row.row in
     let inside = c.in_ok-row.ensures.inside in
     let low : 1 ≤ c.args.cost = omega (arith, c.if-cost-eq0.false) in
-    let rows = c.self.inside.0.1.0.0.1.0 in
-    let place = c.overwrite.ensures ∙ ap (λ (rs : List Row). costing c.args.cost (row rs n)) (c.as_slice.ensures ∙ ap (λ (t : Table). t.rows.items) view) in
-    let is : c.forget.new.self ≡ forgotten (cost_at p.table n c.args.cost) = c.forget.ensures ∙ ap forgotten (row_written rows.places rows.count c.args.cost view inside place) in
+    let place = c.overwrite.ensures ∙ ap (λ (rs : List Row). costing c.args.cost (row rs n)) c.as_slice.ensures.value in
+    let is : c.forget.new.self ≡ forgotten (cost_at p.table n c.args.cost) = c.forget.ensures ∙ ap forgotten (row_written p.table n c.args.cost c.as_mut_slice.ensures.value place) in
     let after = ap contents is ∙ contents_recosted p.table (sound p) n c.args.cost inside (low, c.if-cost-gt1000000.false) c.args.id c.args.step c.in_ok-row.ensures.value in
     let made = recost_accepted (g.R.NodeRule.answer p.rule) (contents p.table) c.args.id c.args.step c.args.cost n (contents c.forget.new.self) c.in_ok-row.ensures.value (low, c.if-cost-gt1000000.false) after in
     record { rule = refl; value = made.value; after = after; run = made.run }
