@@ -113,7 +113,7 @@ fn place_fault(kind: Option<Kind>) -> &'static str {
     }
 }
 
-// What is wrong with the node in field 2.
+// What is wrong with the node in field 2. A text of its own, and so not one function with the one before.
 fn node_fault(kind: Option<Kind>) -> &'static str {
     match kind {
         Some(Kind::Node) => "the node (field 2) has been given before",

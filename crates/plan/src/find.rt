@@ -13,6 +13,7 @@ impl<R> Plan<R> {
         ensures { result ≡ span_of (chains_of self.now.table) id }
     {
         let mut first = 0;
+        // a loop, and no `position`: the first row is counted on the way
         for (entry, held) in self.table.entries.iter().enumerate() {
             let steps = held.steps;
             if held.fields.id == id {
@@ -47,6 +48,7 @@ impl<R> Plan<R> {
         ensures fits { chain_fits result.chain ≡ true }
     {
         let mut step = row;
+        // a loop, and no `find`: the rows passed over are counted off
         for held in self.table.entries.as_slice() {
             if step < held.steps {
                 let chain = held.fields;

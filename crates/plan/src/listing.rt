@@ -23,6 +23,7 @@ impl<R> Text for Listing<'_, R> {
             fields: &[self.rounds],
         };
         let mut len = heading.len();
+        // by its number: a row's place in its chain comes of it, and its jitter
         for row in 0..self.plan.table.rows.len() {
             let line = Line {
                 word: b"step",

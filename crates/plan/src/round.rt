@@ -37,6 +37,7 @@ impl<R> Assignment<'_, R> {
         ensures { result.items ≡ jitters_of (chains_of self.now.plan.now.table) self.now.responses.now }
     {
         let mut jitters = ArrayVec::new();
+        // by its number: a jitter is asked for by the row's place, here and in a question
         for row in 0..self.plan.table.rows.len() {
             jitters.push(self.jitter(row));
         }
@@ -52,6 +53,7 @@ impl<R: NodeRule> Assignment<'_, R> {
     {
         let jitters = self.jitters();
         let mut next = ArrayVec::new();
+        // by its number: a node rule is asked by it
         for row in 0..self.plan.table.rows.len() {
             next.push(self.plan.row_response(row, jitters.as_slice())?);
         }

@@ -20,6 +20,7 @@ fn draft_of(text: &[u8]) -> Result<Draft, TableFault>
 {
     let mut draft = Draft::new();
     let mut lines = TextCursor::new(text);
+    // no `for`: the cursor tells each line's number
     while let Some(line) = lines.next() {
         draft = draft.with_line(lines.number(), line)?;
     }
