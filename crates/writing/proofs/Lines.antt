@@ -43,4 +43,4 @@ word_room word ns = let part = length_part word ns 0 in let same = length-append
 pub field_room : (word ns : List ℕ) (k : ℕ) → k < length ns → length (so_far word ns k) + length (decimal (get_or ns k 0)) + 2 ≤ length (line_bytes word ns)
 field_room word ns k inside = let more = length_more word ns k inside in let part = length_part word ns (k + 1) in omega arith
 
-pub ruleset line_room = (word_room, field_room, length_part, length_line, length-set)
+pub ruleset line_room = (word_room, field_room, length_line, length-set)
