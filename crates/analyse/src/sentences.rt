@@ -8,8 +8,7 @@ use std::fmt;
 // Why a table is refused. It is displayed as a sentence.
 #[derive(Clone, Copy)]
 pub(crate) enum Sentence<'a> {
-    // the fault of a text, and the line in which it is
-    Faulty(TableFault, &'a [u8]),
+    Faulty(FaultInLine<'a>),
     // no assignment carries the chains
     NothingCarries { rounds: u32 },
 }
@@ -18,7 +17,10 @@ pub(crate) enum Sentence<'a> {
 pub(crate) fn sentence_on(text: &[u8], verdict: Verdict) -> Option<Sentence> {
     match verdict {
         Verdict::Listed => None,
-        Verdict::Faulty(why) => Some(Sentence::Faulty(why, line_at(text, why.line))),
+        Verdict::Faulty(why) => Some(Sentence::Faulty(FaultInLine {
+            why,
+            line: line_at(text, why.line),
+        })),
         Verdict::NothingCarries { rounds } => Some(Sentence::NothingCarries { rounds }),
     }
 }
@@ -26,7 +28,7 @@ pub(crate) fn sentence_on(text: &[u8], verdict: Verdict) -> Option<Sentence> {
 impl fmt::Display for Sentence<'_> {
     fn fmt<W: fmt::Write>(&self, f: &mut fmt::Formatter<W>) -> fmt::Result {
         match self {
-            Sentence::Faulty(why, line) => write_text_fault(f, why, line),
+            Sentence::Faulty(fault) => fault.fmt(f),
             Sentence::NothingCarries { rounds } => write!(
                 f,
                 "no response times carry the chains: in round {rounds} a step ends after its chain's end-to-end deadline, or a node has too much work"
@@ -35,62 +37,63 @@ impl fmt::Display for Sentence<'_> {
     }
 }
 
+// The fault of a text, and the line in which it is.
+#[derive(Clone, Copy)]
+pub(crate) struct FaultInLine<'a> {
+    why: TableFault,
+    line: &'a [u8],
+}
+
 // Why a text is refused, with the number of the line.
-fn write_text_fault<W: fmt::Write>(
-    f: &mut fmt::Formatter<W>,
-    why: &TableFault,
-    line: &[u8],
-) -> fmt::Result {
-    if why.fault == Fault::TextTooLong {
-        return f.write_str("the text is longer than 32,768 bytes");
-    }
-    let number = why.line;
-    write!(f, "line {number}: ")?;
-    write_line_fault(f, why, line)
-}
-
-// What is wrong with a line.
-fn write_line_fault<W: fmt::Write>(
-    f: &mut fmt::Formatter<W>,
-    why: &TableFault,
-    line: &[u8],
-) -> fmt::Result {
-    let kind = kind_of(line);
-    match why.fault {
-        Fault::Plan(refusal) => f.write_str(chain_fault(refusal)),
-        Fault::NoLineFeed => f.write_str(
-            "the last line does not end in a line feed; the text may be cut off",
-        ),
-        Fault::UnknownKind if line.is_empty() => f.write_str("the line is empty"),
-        Fault::UnknownKind => f.write_str("the first field is none of node, chain and step"),
-        Fault::FieldCount => {
-            let due = fields_due(kind);
-            let count = field_count(line);
-            write!(f, "{due}, and this one has {count}")
+impl fmt::Display for FaultInLine<'_> {
+    fn fmt<W: fmt::Write>(&self, f: &mut fmt::Formatter<W>) -> fmt::Result {
+        if self.why.fault == Fault::TextTooLong {
+            return f.write_str("the text is longer than 32,768 bytes");
         }
-        Fault::Misplaced => f.write_str(place_fault(kind)),
-        Fault::Node => f.write_str(node_fault(kind)),
-        _ => write_field_fault(f, why, line),
+        let number = self.why.line;
+        write!(f, "line {number}: ")?;
+        self.write_line_fault(f)
     }
 }
 
-// What is wrong with one field.
-fn write_field_fault<W: fmt::Write>(
-    f: &mut fmt::Formatter<W>,
-    why: &TableFault,
-    line: &[u8],
-) -> fmt::Result {
-    let field = why.field;
-    let FieldName { name, range } = field_name(kind_of(line), field);
-    write!(f, "{name} (field {field}) ")?;
-    match why.fault {
-        Fault::EmptyField => f.write_str("is empty"),
-        Fault::NotANumber | Fault::NotALetter if has_carriage_return(line, field) => {
-            f.write_str("ends in a carriage return; a line ends in a line feed alone")
+impl FaultInLine<'_> {
+    // What is wrong with the line.
+    fn write_line_fault<W: fmt::Write>(&self, f: &mut fmt::Formatter<W>) -> fmt::Result {
+        let kind = kind_of(self.line);
+        match self.why.fault {
+            Fault::Plan(refusal) => f.write_str(chain_fault(refusal)),
+            Fault::NoLineFeed => f.write_str(
+                "the last line does not end in a line feed; the text may be cut off",
+            ),
+            Fault::UnknownKind if self.line.is_empty() => f.write_str("the line is empty"),
+            Fault::UnknownKind => f.write_str("the first field is none of node, chain and step"),
+            Fault::FieldCount => {
+                let due = fields_due(kind);
+                let count = field_count(self.line);
+                write!(f, "{due}, and this one has {count}")
+            }
+            Fault::Misplaced => f.write_str(place_fault(kind)),
+            Fault::Node => f.write_str(node_fault(kind)),
+            _ => self.write_field_fault(f),
         }
-        Fault::NotANumber => f.write_str("is not a number of 1 to 7 digits, or has a leading zero"),
-        Fault::NotALetter => f.write_str("is neither E nor P"),
-        _ => write!(f, "is out of its range, {range}"),
+    }
+
+    // What is wrong with one field.
+    fn write_field_fault<W: fmt::Write>(&self, f: &mut fmt::Formatter<W>) -> fmt::Result {
+        let field = self.why.field;
+        let FieldName { name, range } = field_name(kind_of(self.line), field);
+        write!(f, "{name} (field {field}) ")?;
+        match self.why.fault {
+            Fault::EmptyField => f.write_str("is empty"),
+            Fault::NotANumber | Fault::NotALetter if has_carriage_return(self.line, field) => {
+                f.write_str("ends in a carriage return; a line ends in a line feed alone")
+            }
+            Fault::NotANumber => {
+                f.write_str("is not a number of 1 to 7 digits, or has a leading zero")
+            }
+            Fault::NotALetter => f.write_str("is neither E nor P"),
+            _ => write!(f, "is out of its range, {range}"),
+        }
     }
 }
 

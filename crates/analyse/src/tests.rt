@@ -8,14 +8,10 @@ use std::test::Fail;
 fn says(rt: &(impl Abort + AllocGlobal), text: &[u8], expected: &str) -> Result<(), Fail> {
     let mut buffer = [0; 64];
     let told = report(text, &mut buffer)?;
-    match sentence_on(text, told.verdict) {
-        Some(why) => {
-            let said = format!(in rt.alloc(); "{why}")?;
-            assert_eq!(rt; said.as_str(), expected);
-            Ok(())
-        },
-        None => Err(Fail::new("not refused")),
-    }
+    let why = sentence_on(text, told.verdict).ok_or("not refused")?;
+    let said = format!(in rt.alloc(); "{why}")?;
+    assert_eq!(rt; said.as_str(), expected);
+    Ok(())
 }
 
 #[test]

@@ -15,6 +15,7 @@ pub fn open() -> Result<MixedPlan, RecordFault> {
     Ok(Plan::open(Mixed::new(EarliestDeadline, FixedPriority, letters)))
 }
 
+// This, `chain` and `check_step` are as in edf_tests: a library crate for three helpers would be longer.
 pub fn step(node: u32, cost: u32, local: u32, delay: u32, priority: u32) -> StepFields {
     StepFields {
         node,

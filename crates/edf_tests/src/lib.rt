@@ -16,6 +16,7 @@ mod tests {
     use std::process::Abort;
     use std::test::Fail;
 
+    // This, `chain` and `check_step` are as in cases_tests: a library crate for three helpers would be longer.
     fn step(node: u32, cost: u32, local: u32, delay: u32, priority: u32) -> StepFields {
         StepFields {
             node,

@@ -138,15 +138,11 @@ mod tests {
     #[test]
     fn record_fault_keeps_its_place(rt: HostRuntime) -> Result<(), Fail> {
         assert_eq!(rt; chain_in(b"chain,7,100,50,0"), Ok(7));
-        match chain_in(b"chain,7,0,50,0") {
-            Ok(_) => Err(Fail::new("taken")),
-            Err(why) => {
-                assert_eq!(rt; why.fault.number(), 1);
-                assert_eq!(rt; why.field, 3);
-                assert_eq!(rt; why.on(12).line, 12);
-                Ok(())
-            }
-        }
+        let why = chain_in(b"chain,7,0,50,0").err().ok_or("taken")?;
+        assert_eq!(rt; why.fault.number(), 1);
+        assert_eq!(rt; why.field, 3);
+        assert_eq!(rt; why.on(12).line, 12);
+        Ok(())
     }
 
     #[test]

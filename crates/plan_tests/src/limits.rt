@@ -7,13 +7,13 @@ fn sixteen_steps_and_not_seventeen(rt: HostRuntime) {
     let mut plan = Plan::open(FixedPriority);
     assert_eq!(rt;
         number(add(&mut plan, chain(1, 1000, 1000), &[step(1, 1, 1); 16])),
-        0
+        None
     );
     assert_eq!(rt;
         number(add(&mut plan, chain(2, 1000, 1000), &[step(1, 1, 1); 17])),
-        2
+        Some(2)
     );
-    assert_eq!(rt; number(add(&mut plan, chain(2, 1000, 1000), &[])), 2);
+    assert_eq!(rt; number(add(&mut plan, chain(2, 1000, 1000), &[])), Some(2));
 }
 
 #[test]
@@ -22,12 +22,12 @@ fn sixteen_chains_and_not_seventeen(rt: HostRuntime) {
     for id in 1..=16 {
         assert_eq!(rt;
             number(add(&mut plan, chain(id, 1000, 1000), &[step(1, 1, 1)])),
-            0
+            None
         );
     }
     assert_eq!(rt;
         number(add(&mut plan, chain(17, 1000, 1000), &[step(1, 1, 1)])),
-        3
+        Some(3)
     );
 }
 
@@ -37,12 +37,12 @@ fn sixty_four_steps_and_not_more(rt: HostRuntime) {
     for id in 1..=4 {
         assert_eq!(rt;
             number(add(&mut plan, chain(id, 1000, 1000), &[step(1, 1, 1); 16])),
-            0
+            None
         );
     }
     assert_eq!(rt;
         number(add(&mut plan, chain(5, 1000, 1000), &[step(1, 1, 1)])),
-        4
+        Some(4)
     );
 }
 
@@ -51,11 +51,11 @@ fn an_id_once(rt: HostRuntime) {
     let mut plan = Plan::open(FixedPriority);
     assert_eq!(rt;
         number(add(&mut plan, chain(7, 1000, 1000), &[step(1, 1, 1)])),
-        0
+        None
     );
     assert_eq!(rt;
         number(add(&mut plan, chain(7, 1000, 1000), &[step(1, 1, 1)])),
-        5
+        Some(5)
     );
 }
 
@@ -64,16 +64,16 @@ fn a_bad_field_comes_before_a_bad_count_and_a_full_plan_before_a_held_id(rt: Hos
     let mut plan = Plan::open(FixedPriority);
     assert_eq!(rt;
         number(add(&mut plan, chain(1, 1000, 1000), &[step(1, 0, 1); 17])),
-        1
+        Some(1)
     );
     for id in 1..=4 {
         assert_eq!(rt;
             number(add(&mut plan, chain(id, 1000, 1000), &[step(1, 1, 1); 16])),
-            0
+            None
         );
     }
     assert_eq!(rt;
         number(add(&mut plan, chain(1, 1000, 1000), &[step(1, 1, 1)])),
-        4
+        Some(4)
     );
 }

@@ -34,10 +34,7 @@ pub fn add(
     plan.add(chain, steps)
 }
 
-// The number of a refusal, or 0 for an answer.
-pub fn number<T: Drop>(res: Result<T, Refusal>) -> u32 {
-    match res {
-        Ok(_) => 0,
-        Err(why) => why.number(),
-    }
+// The number of a refusal, if it is one.
+pub fn number<T: Drop>(res: Result<T, Refusal>) -> Option<u32> {
+    res.err().map(|why| why.number())
 }

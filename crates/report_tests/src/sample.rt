@@ -16,9 +16,8 @@ pub fn says(rt: &impl Abort, text: &[u8], expected: &[u8]) -> Result<(), Fail> {
 }
 
 // A chain of this id, with so many steps on node 1.
-pub fn put_chain(text: &mut String, alloc: Global, id: u32, steps: u32) -> Result<(), AllocError> {
-    let line = format!(in alloc; "chain,{id},1000000,1000000,0\n")?;
-    text.push_str(line.as_str())?;
+pub fn put_chain(text: &mut String, id: u32, steps: u32) -> Result<(), AllocError> {
+    writeln!(text, "chain,{id},1000000,1000000,0")?;
     for _ in 0..steps {
         text.push_str("step,1,1,1000,0,0,1\n")?;
     }
@@ -29,7 +28,7 @@ pub fn put_chain(text: &mut String, alloc: Global, id: u32, steps: u32) -> Resul
 pub fn panel(alloc: Global, chains: u32, steps: u32) -> Result<String, AllocError> {
     let mut text = String::from_str(alloc, "node,1,E\n")?;
     for id in 1..=chains {
-        put_chain(&mut text, alloc, id, steps)?;
+        put_chain(&mut text, id, steps)?;
     }
     Ok(text)
 }
