@@ -1,5 +1,5 @@
 // The plan, as chains that own their steps: its calls, its rounds and its listing.
-use crate::fields::{ChainFields, StepFields, first_fault, is_cost};
+use crate::fields::{ChainFields, OutOfRange, StepFields, is_cost};
 use crate::node::{Letter, Load, response_time};
 use std::alloc::{AllocError, Global};
 use std::collections::BTreeMap;
@@ -79,6 +79,12 @@ impl Refusal {
             Refusal::NothingCarries { rounds } => Some(*rounds),
             _ => None,
         }
+    }
+}
+
+impl From<OutOfRange> for Refusal {
+    fn from(out: OutOfRange) -> Refusal {
+        Refusal::Field { place: out.place }
     }
 }
 
@@ -226,8 +232,9 @@ impl Panel {
 
     // The causes of a refused add, in their order.
     fn check_add(&self, fields: &ChainFields, steps: &[StepFields]) -> Result<(), Refusal> {
-        if let Some(place) = fields.out_of_range().or_else(|| first_fault(steps)) {
-            return Err(Refusal::Field { place });
+        fields.check()?;
+        for step in steps {
+            step.check()?;
         }
         if steps.is_empty() || steps.len() > MOST_STEPS_OF_CHAIN {
             return Err(Refusal::StepCount);
