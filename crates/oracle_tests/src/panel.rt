@@ -414,8 +414,10 @@ impl Panel {
             }
             self.take_over(all.as_slice());
         }
-        // by the documents no table comes here, and no refusal has 0 rounds
-        Ok(Err(Refusal::NothingCarries { rounds: 0 }))
+        // by the documents no table comes here
+        Ok(Err(Refusal::NothingCarries {
+            rounds: MOST_ROUNDS,
+        }))
     }
 
     // The listing, if a solve stands.
