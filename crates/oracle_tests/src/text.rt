@@ -358,18 +358,13 @@ pub fn read(alloc: Global, text: &[u8]) -> Result<Panel, Halt> {
 
 // What is printed of a panel that was read.
 fn solved_text(alloc: Global, panel: &mut Panel) -> Result<String, AllocError> {
-    let listing = match panel.solve()? {
-        Ok(_) => panel.listing()?,
-        Err(why) => Err(why),
-    };
-    match listing {
-        Ok(text) => Ok(text),
-        Err(why) => {
-            let number = why.number();
-            let beside = why.beside().unwrap_or(0);
-            format!(in alloc; "refused,{number},{beside}\n")
-        }
-    }
+    let solved = panel.solve()?;
+    let listing = solved.and(panel.listing()?);
+    listing.or_else(|why| {
+        let number = why.number();
+        let beside = why.beside().unwrap_or(0);
+        format!(in alloc; "refused,{number},{beside}\n")
+    })
 }
 
 // What is printed of a text.
