@@ -172,12 +172,10 @@ impl HeldChain {
         asked: Option<usize>,
         loads: &mut Vec<Load>,
     ) -> Result<(), AllocError> {
-        for (k, step) in self.steps.iter().enumerate() {
-            if step.fields.node == node && asked != Some(k) {
-                loads.push(step.load(self.fields.period))?;
-            }
-        }
-        Ok(())
+        let period = self.fields.period;
+        let steps = self.steps.iter().enumerate();
+        let others = steps.filter(|(k, step)| step.fields.node == node && asked != Some(*k));
+        loads.extend(others.map(|(_, step)| step.load(period)))
     }
 
     // Appends a line of the listing for each step.
@@ -320,6 +318,7 @@ impl Panel {
     // The rows of a node but for the one asked for.
     fn others_on(&self, node: u64, asked: Place) -> Result<Vec<Load>, AllocError> {
         let mut loads = Vec::new(self.alloc);
+        // not `flat_map`: what is appended takes memory, and a chain's closures take none
         for (k, chain) in self.chains.iter().enumerate() {
             let asked = (k == asked.chain).then_some(asked.step);
             chain.loads_on(node, asked, &mut loads)?;
