@@ -51,8 +51,8 @@ fn sources_from(alloc: Global, loads: &[Load], priority: u64) -> Result<Vec<Sour
         .collect(alloc)
 }
 
-// Whether every release jitter is one that a node rule takes. The row asked for and the others stay two parameters here
-// and below: a struct of both would be made in one place, and each function takes them apart.
+// Whether every release jitter is one that a node rule takes.
+// `asked` and `others` stay two parameters: a struct of both would be made in one place, and be taken apart in each.
 fn jitters_fit(asked: &Load, others: &[Load]) -> bool {
     asked.jitter <= JITTER_LIMIT && others.iter().all(|load| load.jitter <= JITTER_LIMIT)
 }

@@ -318,7 +318,7 @@ impl Panel {
     // The rows of a node but for the one asked for.
     fn others_on(&self, node: u64, asked: Place) -> Result<Vec<Load>, AllocError> {
         let mut loads = Vec::new(self.alloc);
-        // not `flat_map`: what is appended takes memory, and a chain's closures take none
+        // not `flat_map`: `loads_on` takes memory, which the closure of a `flat_map` may not
         for (k, chain) in self.chains.iter().enumerate() {
             let asked = (k == asked.chain).then_some(asked.step);
             chain.loads_on(node, asked, &mut loads)?;
