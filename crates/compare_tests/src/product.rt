@@ -71,10 +71,8 @@ fn add(
     work: &Work,
 ) -> Result<Result<(), Refusal>, AllocError> {
     let steps = steps_of(alloc, work)?;
-    match chain_of(work) {
-        Ok(chain) => Ok(plan.add(chain, steps.as_slice())),
-        Err(fault) => Ok(Err(Refusal::Field(fault))),
-    }
+    let chain = chain_of(work).map_err(Refusal::Field);
+    Ok(chain.and_then(|chain| plan.add(chain, steps.as_slice())))
 }
 
 // Makes a call.

@@ -72,10 +72,8 @@ fn filling_script(dice: &mut Dice) -> Script {
 
 // The second analyser's listing, or its refusal.
 fn listing_of(alloc: Global, panel: &Panel) -> Result<String, AllocError> {
-    match panel.listing()? {
-        Ok(text) => Ok(text),
-        Err(why) => format!(in alloc; "refused,{}\n", why.number()),
-    }
+    let listing = panel.listing()?;
+    listing.or_else(|why| format!(in alloc; "refused,{}\n", why.number()))
 }
 
 impl Comparison {
