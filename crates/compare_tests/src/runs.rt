@@ -124,13 +124,8 @@ impl Comparison {
     }
 
     // One run on a new plan.
-    fn one_run(&mut self, filling: bool) -> io::Result<()> {
+    fn one_run(&mut self, script: &Script) -> io::Result<()> {
         let alloc = self.rt.alloc();
-        let script = if filling {
-            filling_script(&mut self.dice)
-        } else {
-            usual_script(&mut self.dice)
-        };
         let earliest = mixture(&mut self.dice);
         let letters = random_letters(alloc, &mut self.dice, script.scale.nodes, earliest)?;
         let Ok(plan) = product::open(&letters) else {
@@ -147,12 +142,17 @@ impl Comparison {
             words: String::new(alloc),
         };
         count(&mut self.tally.runs);
-        self.play(&mut pair, &script)
+        self.play(&mut pair, script)
     }
 
     pub fn compare_runs(&mut self) -> io::Result<()> {
         for k in 0..1500u64 {
-            self.one_run(k % 20 == 0)?;
+            let script = if k % 20 == 0 {
+                filling_script(&mut self.dice)
+            } else {
+                usual_script(&mut self.dice)
+            };
+            self.one_run(&script)?;
         }
         Ok(())
     }
