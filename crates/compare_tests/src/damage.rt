@@ -6,10 +6,21 @@ use std::alloc::{AllocError, Global};
 use std::fmt;
 
 // The lines of a text, without their line feeds.
+// No one type with `Fields`: a line feed ends each line, a comma only parts fields, and they are damaged in other ways.
 #[derive(Drop)]
 pub struct Lines {
     alloc: Global,
     lines: Vec<Vec<u8>>,
+}
+
+// Pieces one after the other, with this byte behind each.
+fn joined(alloc: Global, pieces: &[Vec<u8>], mark: u8) -> Result<Vec<u8>, AllocError> {
+    let mut bytes = Vec::new(alloc);
+    for piece in pieces {
+        bytes.extend_from_slice(piece.as_slice())?;
+        bytes.push(mark)?;
+    }
+    Ok(bytes)
 }
 
 // The fields of a line.
@@ -80,24 +91,33 @@ impl Fields {
         Ok(Fields { alloc, fields })
     }
 
+    // Another field in place of the one that stands here, if one does.
+    fn change_at<F: FnOnce(&[u8]) -> Result<Vec<u8>, AllocError>>(
+        &mut self,
+        at: usize,
+        other: F,
+    ) -> Result<(), AllocError>
+        requires { F.IsAlwaysCallable other }
+    {
+        if let Some(field) = self.fields.get_mut(at) {
+            *field = other(field.as_slice())?;
+        }
+        Ok(())
+    }
+
     // Another field in place of one of these.
     fn change_one(&mut self, dice: &mut Dice) -> Result<(), AllocError> {
         let alloc = self.alloc;
         let last = (self.fields.len() as u64).saturating_sub(1);
         let at = dice.between(1, last) as usize;
-        let kind = dice.below(10);
-        let Some(field) = self.fields.get_mut(if kind == 0 { 0 } else { at }) else {
-            return Ok(());
-        };
-        *field = match kind {
-            0 => dice.of(&ODD_KINDS).to_vec(alloc)?,
-            1 | 2 => Vec::new(alloc),
-            3 | 4 => odd_digits(alloc, dice, field.as_slice())?,
-            5 | 6 => dice.of(&ODD_WORDS).to_vec(alloc)?,
+        match dice.below(10) {
+            0 => self.change_at(0, |_| dice.of(&ODD_KINDS).to_vec(alloc)),
+            1 | 2 => self.change_at(at, |_| Ok(Vec::new(alloc))),
+            3 | 4 => self.change_at(at, |field| odd_digits(alloc, dice, field)),
+            5 | 6 => self.change_at(at, |_| dice.of(&ODD_WORDS).to_vec(alloc)),
             // an end-to-end deadline stays near, so that busy periods do
-            _ => bytes_of(alloc, &odd_number(dice, at == 3))?,
-        };
-        Ok(())
+            _ => self.change_at(at, |_| bytes_of(alloc, &odd_number(dice, at == 3))),
+        }
     }
 
     // A field too many or too few.
@@ -112,11 +132,7 @@ impl Fields {
     }
 
     fn line(&self) -> Result<Vec<u8>, AllocError> {
-        let mut line = Vec::new(self.alloc);
-        for field in self.fields.iter() {
-            line.extend_from_slice(field.as_slice())?;
-            line.push(b',')?;
-        }
+        let mut line = joined(self.alloc, self.fields.as_slice(), b',')?;
         // fields are parted by commas, and no comma stands behind the last
         let _ = line.pop();
         Ok(line)
@@ -148,12 +164,7 @@ impl Lines {
     }
 
     pub fn text(&self) -> Result<Vec<u8>, AllocError> {
-        let mut text = Vec::new(self.alloc);
-        for line in self.lines.iter() {
-            text.extend_from_slice(line.as_slice())?;
-            text.push(b'\n')?;
-        }
-        Ok(text)
+        joined(self.alloc, self.lines.as_slice(), b'\n')
     }
 
     // One line with another field, or another count of fields.

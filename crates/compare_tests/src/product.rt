@@ -71,10 +71,8 @@ fn add(
     work: &Work,
 ) -> Result<Result<(), Refusal>, AllocError> {
     let steps = steps_of(alloc, work)?;
-    match chain_of(work) {
-        Ok(chain) => Ok(plan.add(chain, steps.as_slice())),
-        Err(fault) => Ok(Err(Refusal::Field(fault))),
-    }
+    let chain = chain_of(work).map_err(Refusal::Field);
+    Ok(chain.and_then(|chain| plan.add(chain, steps.as_slice())))
 }
 
 // Makes a call.
@@ -138,9 +136,9 @@ pub fn printed(alloc: Global, text: &[u8], room: usize) -> Result<Vec<u8>, Alloc
     }
 }
 
-// Whether a buffer one byte too short is refused with 20 and left as it was.
+// Whether a buffer one byte too short is refused as such and left as it was.
 pub fn refuses_short(alloc: Global, text: &[u8], len: usize) -> Result<bool, AllocError> {
     let mut short = vec![in alloc; 7u8; len.saturating_sub(1)]?;
     let res = report::report(text, short.as_mut_slice());
-    Ok(res.is_err_and(|why| why.number() == 20) && short.iter().all(|byte| *byte == 7))
+    Ok(res.is_err_and(|why| why == Refusal::BufferShort) && short.iter().all(|byte| *byte == 7))
 }

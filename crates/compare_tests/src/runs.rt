@@ -72,10 +72,8 @@ fn filling_script(dice: &mut Dice) -> Script {
 
 // The second analyser's listing, or its refusal.
 fn listing_of(alloc: Global, panel: &Panel) -> Result<String, AllocError> {
-    match panel.listing()? {
-        Ok(text) => Ok(text),
-        Err(why) => format!(in alloc; "refused,{}\n", why.number()),
-    }
+    let listing = panel.listing()?;
+    listing.or_else(|why| format!(in alloc; "refused,{}\n", why.number()))
 }
 
 impl Comparison {
@@ -126,13 +124,8 @@ impl Comparison {
     }
 
     // One run on a new plan.
-    fn one_run(&mut self, filling: bool) -> io::Result<()> {
+    fn one_run(&mut self, script: &Script) -> io::Result<()> {
         let alloc = self.rt.alloc();
-        let script = if filling {
-            filling_script(&mut self.dice)
-        } else {
-            usual_script(&mut self.dice)
-        };
         let earliest = mixture(&mut self.dice);
         let letters = random_letters(alloc, &mut self.dice, script.scale.nodes, earliest)?;
         let Ok(plan) = product::open(&letters) else {
@@ -149,12 +142,17 @@ impl Comparison {
             words: String::new(alloc),
         };
         count(&mut self.tally.runs);
-        self.play(&mut pair, &script)
+        self.play(&mut pair, script)
     }
 
     pub fn compare_runs(&mut self) -> io::Result<()> {
         for k in 0..1500u64 {
-            self.one_run(k % 20 == 0)?;
+            let script = if k % 20 == 0 {
+                filling_script(&mut self.dice)
+            } else {
+                usual_script(&mut self.dice)
+            };
+            self.one_run(&script)?;
         }
         Ok(())
     }

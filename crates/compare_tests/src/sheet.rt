@@ -92,6 +92,7 @@ pub fn random_letters(
 }
 
 // A number up to `most`, as often as extras come, else 0.
+// Dice and scale stay two parameters: the dice go on from table to table, and each scale is itself rolled from them.
 fn extra(dice: &mut Dice, scale: &Scale, most: u64) -> u64 {
     if dice.percent(scale.extras) {
         dice.between(1, most.max(1))

@@ -24,15 +24,7 @@ const MILLION: u64 = 1_000_000;
 
 const NODES: u64 = 8;
 
-// The place, from 1, of the first field that is outside its range.
-fn first_outside(fields: &[(u64, RangeInclusive<u64>)]) -> Option<u64> {
-    let before = fields
-        .iter()
-        .position(|(value, range)| !range.contains(value))?;
-    Some((before as u64).saturating_add(1))
-}
-
-// Whether a cost is one that a step may have.
+// Whether a cost is one that a step may have. A function, as the next one: no constant can hold a `RangeInclusive`.
 pub fn is_cost(cost: u64) -> bool {
     (1..=MILLION).contains(&cost)
 }
@@ -42,10 +34,25 @@ pub fn is_node(node: u64) -> bool {
     (1..=NODES).contains(&node)
 }
 
+// The place, from 1, of a record's first field that is outside its range.
+#[derive(Clone, Copy, PartialEq, Debug)]
+pub struct OutOfRange {
+    pub place: u64,
+}
+
+fn check_ranges(fields: &[(u64, RangeInclusive<u64>)]) -> Result<(), OutOfRange> {
+    for (place, (value, range)) in (1u64..).zip(fields) {
+        if !range.contains(value) {
+            return Err(OutOfRange { place });
+        }
+    }
+    Ok(())
+}
+
 impl ChainFields {
-    // The place of the first field out of its range.
-    pub fn out_of_range(&self) -> Option<u64> {
-        first_outside(&[
+    // Whether each field is in its range.
+    pub fn check(&self) -> Result<(), OutOfRange> {
+        check_ranges(&[
             (self.id, 1..=65_535),
             (self.period, 1..=MILLION),
             (self.deadline, 1..=MILLION),
@@ -55,9 +62,9 @@ impl ChainFields {
 }
 
 impl StepFields {
-    // The place of the first field out of its range.
-    pub fn out_of_range(&self) -> Option<u64> {
-        first_outside(&[
+    // Whether each field is in its range.
+    pub fn check(&self) -> Result<(), OutOfRange> {
+        check_ranges(&[
             (self.node, 1..=NODES),
             (self.cost, 1..=MILLION),
             (self.local, 1..=MILLION),
@@ -66,11 +73,6 @@ impl StepFields {
             (self.priority, 0..=255),
         ])
     }
-}
-
-// The place of the first field out of range in the first step that has one.
-pub fn first_fault(steps: &[StepFields]) -> Option<u64> {
-    steps.iter().find_map(|step| step.out_of_range())
 }
 
 // The line of a chain, without its line feed.

@@ -52,6 +52,7 @@ fn sources_from(alloc: Global, loads: &[Load], priority: u64) -> Result<Vec<Sour
 }
 
 // Whether every release jitter is one that a node rule takes.
+// `asked` and `others` stay two parameters: a struct of both would be made in one place, and be taken apart in each.
 fn jitters_fit(asked: &Load, others: &[Load]) -> bool {
     asked.jitter <= JITTER_LIMIT && others.iter().all(|load| load.jitter <= JITTER_LIMIT)
 }
@@ -67,6 +68,7 @@ fn busy_period(alloc: Global, asked: &Load, others: &[Load]) -> Result<Option<u6
 fn fixed_priority(asked: &Load, rivals: &mut [Source], busy: u64) -> Option<u64> {
     let mut worst: u64 = 0;
     let mut own = asked.blocking;
+    // no fold: own work grows from job to job beside the worst, and a pair carried along would be no plainer
     for earlier in 0..busy.div_ceil(asked.period.max(1)) {
         let start = asked.period.saturating_mul(earlier);
         own = own.saturating_add(asked.cost);
@@ -82,6 +84,7 @@ fn earliest_deadline(asked: &Load, rivals: &mut [Source], busy: u64) -> Option<u
     let mut worst: u64 = 0;
     let mut own = asked.blocking;
     let mut one_more_at: u64 = 0;
+    // no fold: it would carry all three numbers from instant to instant
     for release in 0..busy {
         if release == one_more_at {
             own = own.saturating_add(asked.cost);

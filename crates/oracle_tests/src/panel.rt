@@ -1,5 +1,5 @@
 // The plan, as chains that own their steps: its calls, its rounds and its listing.
-use crate::fields::{ChainFields, StepFields, first_fault, is_cost};
+use crate::fields::{ChainFields, OutOfRange, StepFields, is_cost};
 use crate::node::{Letter, Load, response_time};
 use std::alloc::{AllocError, Global};
 use std::collections::BTreeMap;
@@ -79,6 +79,12 @@ impl Refusal {
             Refusal::NothingCarries { rounds } => Some(*rounds),
             _ => None,
         }
+    }
+}
+
+impl From<OutOfRange> for Refusal {
+    fn from(out: OutOfRange) -> Refusal {
+        Refusal::Field { place: out.place }
     }
 }
 
@@ -166,12 +172,10 @@ impl HeldChain {
         asked: Option<usize>,
         loads: &mut Vec<Load>,
     ) -> Result<(), AllocError> {
-        for (k, step) in self.steps.iter().enumerate() {
-            if step.fields.node == node && asked != Some(k) {
-                loads.push(step.load(self.fields.period))?;
-            }
-        }
-        Ok(())
+        let period = self.fields.period;
+        let steps = self.steps.iter().enumerate();
+        let others = steps.filter(|(k, step)| step.fields.node == node && asked != Some(*k));
+        loads.extend(others.map(|(_, step)| step.load(period)))
     }
 
     // Appends a line of the listing for each step.
@@ -226,8 +230,9 @@ impl Panel {
 
     // The causes of a refused add, in their order.
     fn check_add(&self, fields: &ChainFields, steps: &[StepFields]) -> Result<(), Refusal> {
-        if let Some(place) = fields.out_of_range().or_else(|| first_fault(steps)) {
-            return Err(Refusal::Field { place });
+        fields.check()?;
+        for step in steps {
+            step.check()?;
         }
         if steps.is_empty() || steps.len() > MOST_STEPS_OF_CHAIN {
             return Err(Refusal::StepCount);
@@ -313,6 +318,7 @@ impl Panel {
     // The rows of a node but for the one asked for.
     fn others_on(&self, node: u64, asked: Place) -> Result<Vec<Load>, AllocError> {
         let mut loads = Vec::new(self.alloc);
+        // not `flat_map`: `loads_on` takes memory, which the closure of a `flat_map` may not
         for (k, chain) in self.chains.iter().enumerate() {
             let asked = (k == asked.chain).then_some(asked.step);
             chain.loads_on(node, asked, &mut loads)?;
@@ -407,8 +413,10 @@ impl Panel {
             }
             self.take_over(all.as_slice());
         }
-        // by the documents no table comes here, and no refusal has 0 rounds
-        Ok(Err(Refusal::NothingCarries { rounds: 0 }))
+        // by the documents no table comes here
+        Ok(Err(Refusal::NothingCarries {
+            rounds: MOST_ROUNDS,
+        }))
     }
 
     // The listing, if a solve stands.

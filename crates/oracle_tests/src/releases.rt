@@ -66,6 +66,7 @@ struct Batch {
 fn first_batch(sources: &mut [Source], due: u64) -> Batch {
     let mut work: u64 = 0;
     let mut next = NEVER;
+    // one walk, no chains: it changes the sources and gathers two numbers, and a chain would hide that
     for source in sources {
         source.next = source.if_due(source.later, due);
         next = next.min(source.next);
@@ -80,6 +81,7 @@ fn first_batch(sources: &mut [Source], due: u64) -> Batch {
 fn batch_at(sources: &mut [Source], instant: u64, due: u64) -> Batch {
     let mut work: u64 = 0;
     let mut next = NEVER;
+    // one walk, as in `first_batch`
     for source in sources {
         if source.next == instant {
             work = work.saturating_add(source.cost);
@@ -99,6 +101,7 @@ pub fn least_window(own: u64, sources: &mut [Source], due: Option<u64>, limit: u
     let mut work = own.saturating_add(first.work);
     let mut next = first.next;
     let mut window: u64 = 1;
+    // no chain: three numbers go on from release to release, and the scan ends in three ways
     for _ in 0..limit {
         // from this tick to the next release the work stays the same
         if work >= window && work <= next {

@@ -1,5 +1,5 @@
 // A table's text, and what is printed of it: the listing, or the line of its refusal.
-use crate::fields::{ChainFields, StepFields, is_node};
+use crate::fields::{ChainFields, OutOfRange, StepFields, is_node};
 use crate::node::Letter;
 use crate::panel::{Panel, Refusal};
 use std::alloc::{AllocError, AllocFailed, Global};
@@ -222,12 +222,9 @@ impl FieldLine {
         Letter::try_from(self.field(2)).map_err(|cause| self.fault_at(3, cause))
     }
 
-    // Fault 1, if the fields of a record are out of range at this place: the record's first field is the line's second.
-    fn check_range(&self, out_of_range: Option<u64>) -> Result<(), Fault> {
-        match out_of_range {
-            Some(place) => Err(self.fault_at(place.saturating_add(1), Cause::OutOfRange)),
-            None => Ok(()),
-        }
+    // Fault 1, of a record that is out of range at this place: the record's first field is the line's second.
+    fn out_of_range(&self, out: OutOfRange) -> Fault {
+        self.fault_at(out.place.saturating_add(1), Cause::OutOfRange)
     }
 }
 
@@ -271,7 +268,7 @@ impl Reader {
             deadline,
             arrival_jitter,
         };
-        line.check_range(fields.out_of_range())?;
+        fields.check().map_err(|out| line.out_of_range(out))?;
         self.complete()?;
         self.open = Some(OpenChain {
             line: line.number,
@@ -294,7 +291,7 @@ impl Reader {
         let Some(open) = &mut self.open else {
             return Err(line.fault(Cause::Order).into());
         };
-        line.check_range(fields.out_of_range())?;
+        fields.check().map_err(|out| line.out_of_range(out))?;
         if !self.panel.has_letter(node) {
             return Err(line.fault_at(2, Cause::NodeLine).into());
         }
@@ -361,18 +358,13 @@ pub fn read(alloc: Global, text: &[u8]) -> Result<Panel, Halt> {
 
 // What is printed of a panel that was read.
 fn solved_text(alloc: Global, panel: &mut Panel) -> Result<String, AllocError> {
-    let listing = match panel.solve()? {
-        Ok(_) => panel.listing()?,
-        Err(why) => Err(why),
-    };
-    match listing {
-        Ok(text) => Ok(text),
-        Err(why) => {
-            let number = why.number();
-            let beside = why.beside().unwrap_or(0);
-            format!(in alloc; "refused,{number},{beside}\n")
-        }
-    }
+    let solved = panel.solve()?;
+    let listing = solved.and(panel.listing()?);
+    listing.or_else(|why| {
+        let number = why.number();
+        let beside = why.beside().unwrap_or(0);
+        format!(in alloc; "refused,{number},{beside}\n")
+    })
 }
 
 // What is printed of a text.
