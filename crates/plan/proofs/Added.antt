@@ -56,16 +56,18 @@ pub passes_append : {A : Type 0} (p : A → Bool) (xs ys : List A) → list_all 
 passes_append p [] ys e f = f
 passes_append p (x ∷ xs) ys e f = let (a, b) = and_parts (p x) (list_all p xs) e in rw a (passes_append p xs ys b f)
 
-pub sound_added : (t : Table) → Sound t → (c : Chain) (steps : List StepFields) → first_bad steps ≡ None → length t.rows.items + length steps ≤ 64 → Sound (appended t c.fields steps)
-sound_added t s c steps good rows =
+pub sound_added : (t : Table) → Sound t → (c : Chain) (steps : List StepFields) → first_bad steps ≡ None → length t.entries.items < 16 → length t.rows.items + length steps ≤ 64 → Sound (appended t c.fields steps)
+sound_added t s c steps good chains rows =
     let counted = s.rows_counted in
     let push = steps_push t.entries.items (record { fields = c.fields; steps = length steps }) in
     let more = map (row_of c.fields.period) steps in
     let l = length-append t.rows.items more in
     let m = length-map steps (row_of c.fields.period) in
+    let entries = length-append t.entries.items (record { fields = c.fields; steps = length steps } ∷ []) in
     let before = fitting t t.responses.items s.responses_fit in
     let one_each = length-append t.responses.items _ ∙ ap₂ ◌+◌ before.one_each (length-replicate _ _ ∙ sym m) ∙ sym l in
     record {
+      few_chains = omega arith;
       few_rows = omega arith;
       rows_counted = omega arith;
       chains_fit = passes_append entry_fits t.entries.items (record { fields = c.fields; steps = length steps } ∷ []) s.chains_fit (rw c.in_range);

@@ -3,6 +3,7 @@ use Rattle.std.proofs.Common.{◌≡◌, ℕ, zero, suc, ◌+◌, ◌<◌, ◌�
 use mathlib.Core.Bool.{false≢true}
 use lib.Seq.{take-append-le}
 use Rattle.std.proofs.lemmas.List.{length-take-le, length-drop, drop-drop, drop_at, append_assoc}
+use Rattle.std.proofs.lemmas.List.Edits.{length-remove}
 use Rattle.std.specs.List.{remove_range}
 use Rattle.records.specs.declared.fields.Row.{Row}
 use Rattle.records.specs.Ranges.{row_fits}
@@ -147,9 +148,12 @@ module _ (t : Table) (before : Sound t) (id : ℕ) (span : Span) (found : Spans 
 
   pub sound_removed : Sound (removed t span)
   sound_removed =
-      let few = before.few_rows in
+      let few = before.few_chains in
+      let rows = before.few_rows in
+      let chain = length-remove t.entries.items span.entry span_inside.0 in
       let l = length_removed t.rows.items span.first span.steps span_inside.1 in
       record {
+        few_chains = omega arith;
         few_rows = omega arith;
         rows_counted = counted_left;
         chains_fit = passes_append entry_fits (take span.entry t.entries.items) _ (passes_take entry_fits span.entry t.entries.items before.chains_fit) (passes_drop entry_fits (suc span.entry) t.entries.items before.chains_fit);

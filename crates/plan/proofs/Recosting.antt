@@ -125,6 +125,7 @@ module _ (t : Table) (before : Sound t) (n cost : ℕ) (inside : n < length t.ro
       let fit = each_at Fits t.rows.items n no_row fits inside in
       let kept = fitting t t.responses.items before.responses_fit in
       record {
+        few_chains = before.few_chains;
         few_rows = omega arith;
         rows_counted = counted;
         chains_fit = before.chains_fit;

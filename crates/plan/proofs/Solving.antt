@@ -33,6 +33,7 @@ forgotten_fits t = fits_in (forgotten t) (replicate (length t.rows.items) 0) (le
 abbrev pub Sound : Table → Type 0
 Sound t =
     record {
+      few_chains : length t.entries.items ≤ 16;
       few_rows : length t.rows.items ≤ 64;
       rows_counted : steps_in t.entries.items ≡ length t.rows.items;
       chains_fit : list_all entry_fits t.entries.items ≡ true;
@@ -41,10 +42,10 @@ Sound t =
     }
 
 pub sound : {R : Type 0} (p : Plan R) → Sound p.table
-sound p = record { few_rows = p.few_rows; rows_counted = p.rows_counted; chains_fit = p.chains_fit; rows_fit = p.rows_fit; responses_fit = p.responses_fit }
+sound p = record { few_chains = p.few_chains; few_rows = p.few_rows; rows_counted = p.rows_counted; chains_fit = p.chains_fit; rows_fit = p.rows_fit; responses_fit = p.responses_fit }
 
 pub sound_forgotten : (t : Table) → Sound t → Sound (forgotten t)
-sound_forgotten t s = record { few_rows = s.few_rows; rows_counted = s.rows_counted; chains_fit = s.chains_fit; rows_fit = s.rows_fit; responses_fit = forgotten_fits t }
+sound_forgotten t s = record { few_chains = s.few_chains; few_rows = s.few_rows; rows_counted = s.rows_counted; chains_fit = s.chains_fit; rows_fit = s.rows_fit; responses_fit = forgotten_fits t }
 
 -- what it says then is the chains anew
 pub forgotten_anew : (t : Table) → steps_in t.entries.items ≡ length t.rows.items → contents (forgotten t) ≡ anew (chains_of t)

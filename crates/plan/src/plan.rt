@@ -10,7 +10,8 @@ use crate::table::Table;
 pub struct Plan<R> {
     pub(crate) rule: R,
     pub(crate) table: Table,
-    // the capacity of the list, known by its type, said again for the proofs above
+    // the capacities of the lists, known by their types, said again for the proofs above
+    ghost few_chains: { length table.entries.items ≤ 16 },
     ghost few_rows: { length table.rows.items ≤ 64 },
     ghost rows_counted: { steps_in table.entries.items ≡ length table.rows.items },
     ghost chains_fit: { list_all entry_fits table.entries.items ≡ true },

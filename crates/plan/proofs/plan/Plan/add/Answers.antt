@@ -39,7 +39,7 @@ invariant_of-self g c =
     let done = room_refused (chains_of p.table) c.args.chain steps (Ok Done) c.in_ok-check_steps.ensures (rw c.fields-fields.ensures at c.in_ok-check_room.ensures) in
     let test = tested p.table p.rows_counted c.args.chain steps done in
     let is : c.append.new.self ≡ appended p.table c.args.chain.fields steps = rw c.fields-fields.ensures at c.append.ensures in
-    subst Sound (sym is) (sound_added p.table (sound p) c.args.chain steps test.fields test.rows)
+    subst Sound (sym is) (sound_added p.table (sound p) c.args.chain steps test.fields test.chains test.rows)
 
 pub returns : goal.returns
 returns g c =
