@@ -9,11 +9,11 @@ use Rattle.plan.specs.Listing.{row_line, rows_bytes, listing_bytes}
 use Rattle.plan.proofs.Memory.{rows_are}
 
 module _ (s : Contents) where
-  rows_none : rows_bytes s 0 ≡ []
+  pub rows_none : rows_bytes s 0 ≡ []
   unfolding rows_bytes
   rows_none = refl
 
-  rows_more : (n : ℕ) → rows_bytes s (n + 1) ≡ rows_bytes s n ++ row_line s.chains s.start n
+  pub rows_more : (n : ℕ) → rows_bytes s (n + 1) ≡ rows_bytes s n ++ row_line s.chains s.start n
   unfolding rows_bytes
   rows_more n = rw (add-one n)
 
