@@ -1,11 +1,13 @@
 // A plan's calls as data, so that a list of them can be made one after another.
 use records::{Chain, StepFields};
+use std::borrow::CowSlice;
 
-#[derive(Clone, Copy)]
+#[derive(Drop)]
 pub enum PlanCall<'a> {
     Add {
         chain: Chain,
-        steps: &'a [StepFields],
+        // the call's own, or lent to it
+        steps: CowSlice<'a, StepFields>,
     },
     DropChain {
         id: u32,

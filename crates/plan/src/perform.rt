@@ -19,7 +19,9 @@ impl<R: NodeRule> Plan<R> {
         ensures run { Keeps (R.answer self.old.rule) (contents self.old.table) (meant call.now) result (contents self.new.table) }
     {
         match call {
-            PlanCall::Add { chain, steps } => { self.add(*chain, steps).map(|()| Reply::Done) }
+            PlanCall::Add { chain, steps } => {
+                self.add(*chain, steps.as_slice()).map(|()| Reply::Done)
+            }
             PlanCall::DropChain { id } => self.drop_chain(*id).map(|()| Reply::Done),
             PlanCall::Recost { id, step, cost } => {
                 self.recost(*id, *step, *cost).map(|()| Reply::Done)

@@ -3,6 +3,8 @@ use fixed::FixedPriority;
 use law::{Refusal, Reply, Timing};
 use plan::{Plan, PlanCall, replay};
 use records::Chain;
+use std::alloc::{AllocError, Global};
+use std::borrow::CowSlice;
 use std::test::Fail;
 
 #[test]
@@ -80,13 +82,46 @@ fn a_list_of_calls_is_answered_in_order(rt: HostRuntime) -> Result<(), Fail> {
         PlanCall::Ask { id: 3, step: 1 },
         PlanCall::Add {
             chain: first,
-            steps: &steps,
+            steps: CowSlice::Borrowed(&steps),
         },
         PlanCall::Solve,
         PlanCall::Ask { id: 3, step: 1 },
     ];
     let mut answers = [Ok(Reply::Done); 5];
     assert_eq!(rt; replay(FixedPriority, &calls, &mut answers), 4);
+    assert_eq!(rt; answers[0], Err(Refusal::IdUnknown));
+    assert_eq!(rt; answers[1], Ok(Reply::Done));
+    assert_eq!(rt; answers[2], Ok(Reply::Solved { rounds: 2 }));
+    assert_eq!(rt;
+        answers[3],
+        Ok(Reply::Told(Timing {
+            jitter: 0,
+            response: 4,
+        }))
+    );
+    assert_eq!(rt; answers[4], Ok(Reply::Done));
+    Ok(())
+}
+
+// Calls that own the steps of the chain to be added.
+fn owned_calls(alloc: Global, first: Chain) -> Result<Vec<PlanCall<'static>>, AllocError> {
+    let steps = [step(1, 4, 2)].to_vec(alloc)?;
+    let mut calls = Vec::new(alloc);
+    calls.push(PlanCall::Ask { id: 3, step: 1 })?;
+    calls.push(PlanCall::Add {
+        chain: first,
+        steps: CowSlice::Owned(steps),
+    })?;
+    calls.push(PlanCall::Solve)?;
+    calls.push(PlanCall::Ask { id: 3, step: 1 })?;
+    Ok(calls)
+}
+
+#[test]
+fn a_list_of_calls_may_own_its_steps(rt: HostRuntime) -> Result<(), Fail> {
+    let calls = owned_calls(rt.alloc(), Chain::try_from(chain(3, 20, 20))?)?;
+    let mut answers = [Ok(Reply::Done); 5];
+    assert_eq!(rt; replay(FixedPriority, calls.as_slice(), &mut answers), 4);
     assert_eq!(rt; answers[0], Err(Refusal::IdUnknown));
     assert_eq!(rt; answers[1], Ok(Reply::Done));
     assert_eq!(rt; answers[2], Ok(Reply::Solved { rounds: 2 }));
