@@ -136,9 +136,10 @@ pub fn printed(alloc: Global, text: &[u8], room: usize) -> Result<Vec<u8>, Alloc
     }
 }
 
-// Whether a buffer one byte too short is refused as such and left as it was.
+// Whether a buffer one byte too short is refused as such, with 20, and left as it was.
 pub fn refuses_short(alloc: Global, text: &[u8], len: usize) -> Result<bool, AllocError> {
     let mut short = vec![in alloc; 7u8; len.saturating_sub(1)]?;
     let res = report::report(text, short.as_mut_slice());
-    Ok(res.is_err_and(|why| why == Refusal::BufferShort) && short.iter().all(|byte| *byte == 7))
+    let refused = res.is_err_and(|why| why == Refusal::BufferShort && why.number() == 20);
+    Ok(refused && short.iter().all(|byte| *byte == 7))
 }

@@ -67,13 +67,18 @@ fn busy_period(alloc: Global, asked: &Load, others: &[Load]) -> Result<Option<u6
 // Fixed priorities: each job of the row that starts inside the busy period, behind the jobs of its rivals.
 fn fixed_priority(asked: &Load, rivals: &mut [Source], busy: u64) -> Option<u64> {
     let mut worst: u64 = 0;
+    let mut start: u64 = 0;
     let mut own = asked.blocking;
-    // no fold: own work grows from job to job beside the worst, and a pair carried along would be no plainer
-    for earlier in 0..busy.div_ceil(asked.period.max(1)) {
-        let start = asked.period.saturating_mul(earlier);
+    // a walk over the row's own releases and no division, to stay unlike the first analyser;
+    // no fold: own work grows from job to job beside the worst, and what is carried along would be no plainer
+    for _ in 0..busy {
+        if start >= busy {
+            break;
+        }
         own = own.saturating_add(asked.cost);
         let done = least_window(own, rivals, None, COMPLETION_LIMIT)?;
         worst = worst.max(asked.jitter.saturating_add(done).saturating_sub(start));
+        start = start.saturating_add(asked.period);
     }
     Some(worst)
 }

@@ -54,6 +54,8 @@ pub enum Refusal {
     Cost,
     NotSolved,
     NothingCarries { rounds: u64 },
+    // none of the documents' causes: the rounds that any table makes are over
+    NeverSettles,
 }
 
 impl Refusal {
@@ -69,6 +71,8 @@ impl Refusal {
             Refusal::Cost => 8,
             Refusal::NotSolved => 9,
             Refusal::NothingCarries { rounds: _ } => 10,
+            // none of the documents' numbers, so no answer of the first analyser equals this one
+            Refusal::NeverSettles => 0,
         }
     }
 
@@ -414,9 +418,7 @@ impl Panel {
             self.take_over(all.as_slice());
         }
         // by the documents no table comes here
-        Ok(Err(Refusal::NothingCarries {
-            rounds: MOST_ROUNDS,
-        }))
+        Ok(Err(Refusal::NeverSettles))
     }
 
     // The listing, if a solve stands.

@@ -4,7 +4,7 @@ use crate::node::Letter;
 use crate::panel::{Panel, Refusal};
 use std::alloc::{AllocError, AllocFailed, Global};
 use std::collections::BTreeMap;
-use std::fmt;
+use std::{fmt, mem};
 
 const LONGEST_TEXT: usize = 32_768;
 
@@ -152,7 +152,8 @@ fn number_of(word: &[u8]) -> Result<u64, Cause> {
         [b'0', _, ..] => return Err(Cause::Number),
         _ => {}
     }
-    if word.len() > MOST_DIGITS || !word.iter().all(|byte| byte.is_ascii_digit()) {
+    // a pattern and no `is_ascii_digit`, to stay unlike the first analyser
+    if word.len() > MOST_DIGITS || !word.iter().all(|byte| matches!(*byte, b'0'..=b'9')) {
         return Err(Cause::Number);
     }
     let digits = str::from_utf8(word).map_err(|_| Cause::Number)?;
@@ -160,11 +161,19 @@ fn number_of(word: &[u8]) -> Result<u64, Cause> {
 }
 
 // The pieces of some bytes between the marks: one more than there are marks.
+// Cut by hand, byte by byte and with no `split`, to stay unlike the first analyser.
 fn cut(alloc: Global, bytes: &[u8], mark: u8) -> Result<Vec<Vec<u8>>, AllocError> {
-    bytes
-        .split(|byte| *byte == mark)
-        .map(|piece| piece.to_vec(alloc))
-        .try_collect(alloc)
+    let mut pieces = Vec::new(alloc);
+    let mut piece: Vec<u8> = Vec::new(alloc);
+    for byte in bytes {
+        if *byte == mark {
+            pieces.push(mem::replace(&mut piece, Vec::new(alloc)))?;
+        } else {
+            piece.push(*byte)?;
+        }
+    }
+    pieces.push(piece)?;
+    Ok(pieces)
 }
 
 // One line, cut into its fields.
