@@ -28,13 +28,19 @@ pub deadline_laws : Laws earliest_deadline
 unfolding earliest_deadline
 deadline_laws = laws by_deadline deadline_sound
 
+due_none : (r : Row) (j by : ℕ) → by < r.step.local.ticks → due r j by ≡ 0
+due_none r j by h = cond-true _ _ _ (lt-ltb _ _ h)
+
+due_some : (r : Row) (j by : ℕ) → r.step.local.ticks ≤ by → due r j by ≡ (j + by - r.step.local.ticks) / r.period + 1
+due_some r j by h = cond-false _ _ _ (le-ltb _ _ h)
+
 -- the jobs that are due, job by job
 due_counts : (r : Row) (j by q : ℕ) → 1 ≤ r.period → (q < due r j by) ↔ (q * r.period - j + r.step.local.ticks ≤ by)
 due_counts r j by q h =
     let full = (j + by - r.step.local.ticks) / r.period in
     elim (cases_lt by r.step.local.ticks) [
-      | inl l ↦ rw (cond-true _ 0 (full + 1) (lt-ltb _ _ l)) ((λ m. absurd (omega arith)), λ m. absurd (omega arith))
-      | inr l ↦ rw (cond-false _ 0 (full + 1) (le-ltb _ _ l))
+      | inl l ↦ rw (due_none r j by l) ((λ m. absurd (omega arith)), λ m. absurd (omega arith))
+      | inr l ↦ rw (due_some r j by l)
           ((λ m. let q_full : q ≤ full = omega arith in let k = (le-div_iff_mul-le h).0 q_full in omega arith), λ m. let k : q ≤ full = (le-div_iff_mul-le h).1 (omega arith) in omega arith)
     ]
 

@@ -19,7 +19,7 @@ fields_behind line = fields_of line.now
 pub start : (c : Cursor) → c.field ≡ 1 → At (all_fields c) 1 c
 start c e = record { fields_are = refl; field = e }
 
-next : {fields : List (List ℕ)} {k : ℕ} {c d : Cursor} → At fields k c → Moved c d → At fields (k + 1) d
+pub next : {fields : List (List ℕ)} {k : ℕ} {c d : Cursor} → At fields k c → Moved c d → At fields (k + 1) d
 next a m =
     record {
       fields_are = ap fields_behind m.line ∙ a.fields_are;

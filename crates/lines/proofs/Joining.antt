@@ -11,7 +11,7 @@ use Rattle.mixed.specs.declared.letters.Letter.{Letter}
 use Rattle.mixed.specs.declared.letters.Letter.TheVariants.{E, P}
 use Rattle.lines.specs.declared.line.Line.{Line}
 use Rattle.lines.specs.declared.line.Line.TheVariants.{Node, Chain, Step}
-use Rattle.lines.specs.Fields.{parted}
+use Rattle.lines.specs.Fields.{fields_of}
 use Rattle.lines.specs.Writing.{letter_bytes, written_fields, by_commas, numbers_of, Small}
 use Rattle.lines.proofs.Numerals.{own}
 
@@ -49,8 +49,14 @@ module _ (sep : ℕ) (low : sep < 48) where
   without [] p = tt
   without (b ∷ bs) p = (ne_eqb b sep (λ e. omega (arith, leb-true 48 b p.0)), without bs p.1)
 
-pub fields_joined : (f : List ℕ) (fs : List (List ℕ)) → AllByRecursion Plain (f ∷ fs) → parted 44 (by_commas (f ∷ fs)) ≡ f ∷ fs
-fields_joined f [] p = slice_split_none (λ b. eqb b 44) f (All-from_recursion _ f (without 44 (omega arith) f p.0))
-fields_joined f (g ∷ fs) p =
-    slice_split_at (λ b. eqb b 44) f 44 (by_commas (g ∷ fs)) (All-from_recursion _ f (without 44 (omega arith) f p.0)) refl
-    ∙ ap (λ gs. f ∷ gs) (fields_joined g fs p.1)
+  -- nor any byte of several fields
+  pub all_without : (fs : List (List ℕ)) → AllByRecursion Plain fs → AllByRecursion (AllByRecursion (λ b. eqb b sep ≡ false)) fs
+  all_without [] p = tt
+  all_without (f ∷ fs) p = (without f p.0, all_without fs p.1)
+
+-- no field holds a comma
+pub fields_joined : (f : List ℕ) (fs : List (List ℕ)) → AllByRecursion (AllByRecursion (λ b. eqb b 44 ≡ false)) (f ∷ fs) → fields_of (by_commas (f ∷ fs)) ≡ f ∷ fs
+fields_joined f [] h = slice_split_none (λ b. eqb b 44) f (All-from_recursion _ f h.0)
+fields_joined f (g ∷ fs) h =
+    slice_split_at (λ b. eqb b 44) f 44 (by_commas (g ∷ fs)) (All-from_recursion _ f h.0) refl
+    ∙ ap (λ gs. f ∷ gs) (fields_joined g fs h.1)

@@ -67,7 +67,7 @@ taken (c ∷ cs) n e =
     by true false t d r = let z : ◌≡◌ {A = ℕ} 0 1 = cc in absurd (omega arith)
     by false d t d' r = let z : ◌≡◌ {A = ℕ} 0 1 = cc in absurd (omega arith)
 
-plain : (bs : List ℕ) → 0 < length bs → length bs ≤ 7 → (1 < length bs → get_or bs 0 0 ≡ 48 → ⊥) → digits_answer 0 bs ≡ number_answer bs
+pub plain : (bs : List ℕ) → 0 < length bs → length bs ≤ 7 → (1 < length bs → get_or bs 0 0 ≡ 48 → ⊥) → digits_answer 0 bs ≡ number_answer bs
 plain [] some short first = absurd (omega arith)
 plain (c ∷ cs) some short first =
     sym (cond-true _ _ _ (and_from _ _ (le-leb (length cs) 6 (omega arith)) (allowed (cases_eq (length cs) 0))))

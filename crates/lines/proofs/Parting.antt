@@ -2,6 +2,7 @@
 use Rattle.std.proofs.Common.{◌≡◌, ℕ, zero, suc, ◌+◌, ◌-◌, ◌≤◌, Bool, true, false, cond, not, eqb, ltb, List, [], ◌∷◌, length, get_or, take, drop, Some, None, sym, refl, ap, ◌∙◌, arith}
 use Rattle.std.specs.List.{position, position_or_len, prefix_len, onto_first}
 use Rattle.std.proofs.lemmas.Bool.{ltb-false}
+use Rattle.std.proofs.lemmas.List.{at_drop_all}
 use Rattle.lines.specs.Fields.{fields_of, at_place, first_of, rest_of, skipped}
 
 -- ## The first separator
@@ -23,6 +24,9 @@ module _ (sep : ℕ) where
       by : (t : Bool) → ltb (position_or_len parts_here bs) (length bs) ≡ t → None ≡ cond t (Some (position_or_len parts_here bs)) None → length bs ≤ position_or_len parts_here bs
       by true e k = let z : ◌≡◌ {A = ℕ} 0 1 = cc in absurd (omega arith)
       by false e k = ltb-false _ _ e
+
+  pub none_left : (bs : List ℕ) (i : ℕ) → length bs ≤ i → length (first_of sep (drop i bs)) ≡ 0
+  none_left bs i h = at_drop_all (λ cs. length (first_of sep cs)) bs i h
 
 -- what stands before and after a place one further on
 pub first_more : (b n : ℕ) (bs : List ℕ) → b ∷ take n bs ≡ take (1 + n) (b ∷ bs)

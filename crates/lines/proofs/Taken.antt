@@ -22,7 +22,7 @@ use Rattle.lines.specs.Numbers.{number_answer}
 use Rattle.lines.specs.Places.{letter_answer, placed, number_at, letter_at}
 use Rattle.lines.specs.Writing.{letter_bytes, written_fields, by_commas, line_bytes, numbers_of, Small, InverseOfWriting}
 use Rattle.lines.proofs.Chained.{goes_on}
-use Rattle.lines.proofs.Joining.{fields_plain, fields_joined}
+use Rattle.lines.proofs.Joining.{fields_plain, all_without, fields_joined}
 use Rattle.lines.proofs.Numerals.{inverse, written}
 use Rattle.lines.proofs.Passing.{no_fault, same_ok, then_passed, test_passed}
 
@@ -190,9 +190,9 @@ written_taken (Step x) s =
     refl
 
 fields_back : (l : Line) → Small (numbers_of l) → fields_of (line_bytes l) ≡ written_fields l
-fields_back (Node x) s = fields_joined _ _ (fields_plain (Node x) s)
-fields_back (Chain x) s = fields_joined _ _ (fields_plain (Chain x) s)
-fields_back (Step x) s = fields_joined _ _ (fields_plain (Step x) s)
+fields_back (Node x) s = fields_joined _ _ (all_without 44 (omega arith) (written_fields (Node x)) (fields_plain (Node x) s))
+fields_back (Chain x) s = fields_joined _ _ (all_without 44 (omega arith) (written_fields (Chain x)) (fields_plain (Chain x) s))
+fields_back (Step x) s = fields_joined _ _ (all_without 44 (omega arith) (written_fields (Step x)) (fields_plain (Step x) s))
 
 -- an answer by the definition is the inverse of writing
 pub exactly : (r : Result Line LineFault) (bs : List ℕ) → r ≡ line_of bs → InverseOfWriting r bs

@@ -81,6 +81,9 @@ larger_least : {a b c : Option ℕ} → AtMost a c → AtMost b c → AtMost (la
 larger_least over k = over
 larger_least (within h) (within k) = within (omega arith)
 
+pub largest_more : (f : ℕ → Option ℕ) (n : ℕ) → largest f (n + 1) ≡ larger (largest f n) (f n)
+largest_more f n = rw add-one
+
 -- one of the answers
 pub one_under : (f : ℕ → Option ℕ) (n k : ℕ) → k < n → AtMost (f k) (largest f n)
 one_under f zero k h = absurd (omega arith)

@@ -61,11 +61,11 @@ module _ (text : List ℕ) (p : Panel) (h : Run) (read : table_of text ≡ Ok p)
 
 -- ## What a reader says of a text
 
-read_fault : (r : Result Panel TableFault) (fault : TableFault) → Err fault ≡ accepted r → r ≡ Err fault
+pub read_fault : (r : Result Panel TableFault) (fault : TableFault) → Err fault ≡ accepted r → r ≡ Err fault
 read_fault (Ok p) fault e = let z : ◌≡◌ {A = ℕ} 0 1 = cc in absurd (omega arith)
 read_fault (Err f) fault e = (cc)
 
-read_panel : (r : Result Panel TableFault) (p : Panel) → Ok tt ≡ accepted r → p ≡ result_unwrap_or r no_panel → r ≡ Ok p
+pub read_panel : (r : Result Panel TableFault) (p : Panel) → Ok tt ≡ accepted r → p ≡ result_unwrap_or r no_panel → r ≡ Ok p
 read_panel (Ok q) p e same = ap Ok (sym same)
 read_panel (Err f) p e same = let z : ◌≡◌ {A = ℕ} 0 1 = cc in absurd (omega arith)
 

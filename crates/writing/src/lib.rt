@@ -50,7 +50,10 @@ impl Text for &[u8] {
 impl Text for u32 {
     ghost bytes = { decimal };
 
-    fn len(&self) -> usize {
+    fn len(&self) -> usize
+        ensures value { result ≡ min (length (decimal self.now)) (2 ^ 64 - 1) }
+        ensures exact { result ≡ length (decimal self.now) }
+    {
         Buffer::new().format(*self).len()
     }
 
