@@ -1,10 +1,10 @@
 -- A chain less: what a plan holds after a drop, and the drop's step of the law over runs.
-use Rattle.std.proofs.Common.{◌≡◌, ℕ, zero, suc, ◌+◌, ◌<◌, ◌≤◌, Bool, true, false, cond, ◌||◌, eqb, List, [], ◌∷◌, ◌++◌, length, take, drop, remove, Ok, Err, refl, ap, ◌∙◌, add_assoc, zero-add, arith, length-append, take_all, take-add}
+use Rattle.std.proofs.Common.{◌≡◌, ℕ, zero, suc, ◌+◌, ◌-◌, ◌<◌, ◌≤◌, Bool, true, false, cond, ◌||◌, eqb, List, [], ◌∷◌, ◌++◌, length, take, drop, remove, Ok, Err, refl, ap, ◌∙◌, add_assoc, zero-add, arith, length-append, take_all, take-add}
 use mathlib.Core.Bool.{false≢true}
 use lib.Seq.{take-append-le}
 use Rattle.std.proofs.lemmas.List.{length-take-le, length-drop, drop-drop, drop_at, append_assoc}
-use Rattle.std.proofs.lemmas.List.Edits.{length-remove}
-use Rattle.std.specs.List.{remove_range}
+use Rattle.std.proofs.lemmas.List.Edits.{length-remove, take-paste}
+use Rattle.std.specs.List.{remove_range, copy_within}
 use Rattle.records.specs.declared.fields.Row.{Row}
 use Rattle.records.specs.Ranges.{row_fits}
 use Rattle.std.proofs.lemmas.Bool.{and_parts}
@@ -127,6 +127,13 @@ length_removed xs at gap h =
     let b = length-take-le at xs (omega arith) in
     let d = length-drop (at + gap) xs in
     omega arith
+
+-- the elements behind a gap, copied to where it begins, close it up
+pub closed_up : {A : Type 0} (xs : List A) (at gap : ℕ) → at + gap ≤ length xs → take (length xs - gap) (copy_within xs (at + gap) (length xs) at) ≡ remove_range xs at (at + gap)
+closed_up xs at gap h =
+    let d = length-drop (at + gap) xs in
+    let n : length xs - gap ≡ at + (length xs - (at + gap)) = omega arith in
+    rw n (take-paste xs at (drop (at + gap) xs) (length xs - (at + gap)) (omega arith) (omega arith) ∙ ap (λ ys. take at xs ++ ys) (take_all (length xs - (at + gap)) (drop (at + gap) xs) (omega arith)))
 
 module _ (t : Table) (before : Sound t) (id : ℕ) (span : Span) (found : Spans (chains_of t) id span) where
   -- where the chain's rows lie

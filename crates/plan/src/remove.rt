@@ -6,6 +6,7 @@ use crate::table::{Span, Table};
 
 impl Table {
     // The chain goes out, with its rows and with every response.
+    #[tactic(auto, using(crate::proofs::Dropping::closed_up))]
     pub(crate) fn remove(&mut self, span: Span)
         requires chain { span.entry < length self.old.entries.items }
         requires few { length self.old.rows.items ≤ 64 }
@@ -14,7 +15,11 @@ impl Table {
         ensures { self.new ≡ removed self.old span }
     {
         self.entries.remove(span.entry);
-        drop(self.rows.drain(span.first..span.first + span.steps));
+        let left = self.rows.len() - span.steps;
+        self.rows
+            .as_mut_slice()
+            .copy_within(span.first + span.steps.., span.first);
+        self.rows.truncate(left);
         self.forget();
     }
 }
